@@ -1,0 +1,4 @@
+pub mod Terms
+pub mod Answer
+pub mod First
+pub mod Texts
