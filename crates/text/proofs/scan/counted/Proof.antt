@@ -1,0 +1,48 @@
+-- `counted` is right because it raises the count by `(`, lowers it by `)` and leaves it by any other sign, and both ways fit. Assumes nothing.
+use mathlib.Core.Path.{sym, _∙_}
+use mir.Facts.{toZ-ofZ}
+use borrow.Author.Needs.{needs}
+use Rattle.text.proofs.ScanDepth.{handed-back}
+use Rattle.text.proofs.scan.counted.Statement.{statement}
+use Rattle.text.proofs.scan.counted.Tie as tie
+
+is-open-requires : tie.Need-is-open-requires
+is-open-requires c κs = search needs
+
+raised-requires : tie.Need-raised-requires
+raised-requires c κs = search needs
+
+returns : tie.Need-returns
+returns c =
+    let is = sym (c .before .before .is-open .ensures) ∙ c .before .if1 .taken in
+    handed-back (c .raised .result) (c .raised .ok) ∙ rw is (rw (toZ-ofZ (c .before .before .before .fits .count)) at (c .raised .ensures))
+
+is-close-requires : tie.Need-is-close-requires
+is-close-requires c κs = search needs
+
+lowered-requires : tie.Need-lowered-requires
+lowered-requires c κs = search needs
+
+returns-2 : tie.Need-returns-2
+returns-2 c =
+    let no-open = sym (c .before .before .before .before .is-open .ensures) ∙ c .before .before .before .if1 .left in
+    let is = sym (c .before .before .is-close .ensures) ∙ c .before .if2 .taken in
+    handed-back (c .lowered .result) (c .lowered .ok) ∙ rw (no-open, is) (rw (toZ-ofZ (c .before .before .before .before .before .fits .count)) at (c .lowered .ensures))
+
+returns-3 : tie.Need-returns-3
+returns-3 c =
+    let no-open = sym (c .before .before .before .is-open .ensures) ∙ c .before .before .if1 .left in
+    let no-close = sym (c .before .is-close .ensures) ∙ c .if2 .left in
+    toZ-ofZ (c .before .before .before .before .fits .count) ∙ rw (no-open, no-close)
+
+pub counted-spec : {M : Type 1} → statement M
+counted-spec =
+    tie.close
+    (tie.spec
+    is-open-requires
+    raised-requires
+    returns
+    is-close-requires
+    lowered-requires
+    returns-2
+    returns-3)
