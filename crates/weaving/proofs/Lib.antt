@@ -1,0 +1,10 @@
+pub mod Store
+pub mod Places
+pub mod Run
+pub mod Ends
+pub mod Width
+pub mod Range
+pub mod CodeLay
+pub mod CodeStore
+pub mod CodeKeep
+pub mod CodeLabel
