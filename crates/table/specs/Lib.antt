@@ -1,0 +1,5 @@
+pub mod Layout
+pub mod WellFormed
+pub mod Faults
+pub mod Checked
+pub mod Written
