@@ -1,0 +1,12 @@
+pub mod Bytes
+pub mod Counts
+pub mod GapCosts
+pub mod Gaps
+pub mod Refusals
+pub mod Tables
+pub mod Conform
+pub mod LabelCount
+pub mod Lists
+pub mod Weaving
+pub mod Sites
+pub mod Compiling

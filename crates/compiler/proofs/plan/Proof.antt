@@ -1,0 +1,18 @@
+-- `plan` turns the expression at the root, and turning leaves the marks that the definitions give. Assumes nothing.
+use native.Mathlib.Omega.{arith}
+use borrow.Author.Needs.{needs}
+use Rattle.compiler.proofs.Sites.{site-some, turn-site, turned-planned}
+use Rattle.compiler.proofs.plan.Statement.{statement}
+use Rattle.compiler.proofs.plan.Tie as tie
+
+root-requires : tie.Need-root-requires
+root-requires c κs = site-some (c .before .before .before .pre)
+
+turn-requires : tie.Need-turn-requires
+turn-requires c κs = turn-site (c .before .before .before .before .pre) (omega (arith, c .before .turn-arg3 .given .0)) (c .root .ensures)
+
+returns : tie.Need-returns
+returns c = turned-planned (c .before .root .ensures) (c .turn .ensures)
+
+pub plan-spec : {M : Type 1} → statement M
+plan-spec = tie.close (tie.spec root-requires turn-requires returns)

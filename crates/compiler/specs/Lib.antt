@@ -1,0 +1,4 @@
+pub mod Compiled
+pub mod Rows
+pub mod Shown
+pub mod Finished
