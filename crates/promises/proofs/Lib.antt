@@ -1,0 +1,11 @@
+pub mod Examples
+pub mod Slips
+pub mod Neighbours
+pub mod Runs
+pub mod Accepted
+pub mod Demands
+pub mod Driving
+pub mod WrongPrograms
+pub mod Never
+pub mod EntryPoints
+pub mod WholeWay

@@ -1,0 +1,166 @@
+-- Slips that the promises have to exclude: each as a definition gone wrong, and what it makes of an example.
+--   turned-by x e      == the turning that exchanges children where x says so
+--   stored-by step gs  == the store after gates that each do `step` to it
+--   order e            == the primitives of the gates of e, in order
+--   NoSlip             == that each slip gives another table or count
+-- Assumes nothing.
+use Prim.Native.Nat.{ℕ, zero, suc, _+_}
+use Prim.Native.String.{String}
+use mathlib.Core.Path.{_≡_}
+use mathlib.Core.Logic.{_≢_}
+use mathlib.Core.Bool.{Bool, true, false, cond, not, _||_}
+use mathlib.Core.List.{List, [], _∷_, _++_, map}
+use lib.Dec.{eqb}
+use lib.ListN.{length, take, getD}
+use Rattle.terms.specs.Terms.{Place, Label, first-label}
+use Rattle.terms.specs.Answer.{Answer, result, refused}
+use Rattle.formula.specs.Formula.{Literal, Kind, union, intersection, Expr, literal, join, literals}
+use Rattle.formula.specs.Typed.{occurs}
+use Rattle.formula.specs.Marks.{placed}
+use Rattle.text.specs.Reading.{reading}
+use Rattle.turning.specs.Tags.{Tag, priced, price, row, smaller}
+use Rattle.turning.specs.Turning.{turned}
+use Rattle.weaving.specs.Gates.{Gate, in-order, gates, true-end, false-end}
+use Rattle.weaving.specs.Labels.{Slot, Store, label-of, labelled, left, GateRecord, Woven, weave}
+use Rattle.compiler.specs.Compiled.{compiled}
+use Rattle.promises.specs.Texts.{bytes}
+use Rattle.promises.specs.Examples.{roomy, run-of}
+
+-- the expression that a text means
+abbrev pub meant : Answer Expr → Expr
+meant (result e) = e
+meant (refused r p) = occurs 0 true 0
+
+abbrev pub expr : String → Expr
+expr text = meant (reading (bytes text))
+
+abbrev pub order : Expr → List ℕ
+order e = map (λ x. x .primitive) (in-order e)
+
+-- Turning gone wrong. What decides is given the operator's kind, its children as typed and its children settled.
+abbrev pub Deciding : Type 0
+Deciding = Kind → Expr → Expr → Expr → Expr → Bool
+
+unfoldable pub turned-by : Deciding → Expr → Expr
+turned-by exchanging (literal x) = literal x
+turned-by exchanging (join k l r) =
+    placed (exchanging k l r (turned-by exchanging l) (turned-by exchanging r)) k (turned-by exchanging l) (turned-by exchanging r)
+
+-- rows compared only after something was done to them
+abbrev pub comparing : (List ℕ → List ℕ) → Deciding
+comparing seen k l r l′ r′ = smaller (seen (row (priced k (price r′) (price l′)))) (seen (row (priced k (price l′) (price r′))))
+
+-- "Comparing the largest cost only"
+abbrev pub largest-only : Deciding
+largest-only = comparing (take 1)
+
+-- "Exchanging children when both rows are equal"
+abbrev pub ties-too : Deciding
+ties-too k l r l′ r′ = not (smaller (row (priced k (price l′) (price r′))) (row (priced k (price r′) (price l′))))
+
+-- rows compared on the two largest costs only
+abbrev pub two-largest : Deciding
+two-largest = comparing (take 2)
+
+-- largest, then smallest, then middle
+abbrev pub smallest-second : Deciding
+smallest-second = comparing (λ c. getD c 0 0 ∷ getD c 2 0 ∷ getD c 1 0 ∷ [])
+
+-- largest, then the sum
+abbrev pub sum-second : Deciding
+sum-second = comparing (λ c. getD c 0 0 ∷ (getD c 0 0 + getD c 1 0 + getD c 2 0) ∷ [])
+
+-- a parent priced over its unturned children
+abbrev pub unturned-children : Deciding
+unturned-children k l r l′ r′ = smaller (row (priced k (price r) (price l))) (row (priced k (price l) (price r)))
+
+-- Labels gone wrong.
+unfoldable pub stored-by : (Gate → Store → Store) → List Gate → Store → Store
+stored-by step [] s = s
+stored-by step (g ∷ gs) s = stored-by step gs (step g s)
+
+-- "Giving back a gate's label after its places got theirs"
+abbrev pub given-back-late : Gate → Store → Store
+given-back-late g s = left (g .number) (labelled (g .false-place) (labelled (g .true-place) s))
+
+-- "Labelling the false place first"
+abbrev pub false-first : Gate → Store → Store
+false-first g s = labelled (g .true-place) (labelled (g .false-place) (left (g .number) s))
+
+-- The label given back last is handed out first: labels that came back lie on a pile.
+pub record Pile : Type 0 where
+  pub holding : List (Place × Label)
+  pub returned : List Label
+  pub fresh : Label
+
+unfoldable pub in-pile : Place → List (Place × Label) → Bool
+in-pile p [] = false
+in-pile p (h ∷ hs) = eqb p (h .0) || in-pile p hs
+
+unfoldable pub pile-label : Place → List (Place × Label) → Label
+pile-label p [] = 0
+pile-label p (h ∷ hs) = cond (eqb p (h .0)) (h .1) (pile-label p hs)
+
+unfoldable pub without : Place → List (Place × Label) → List (Place × Label)
+without p [] = []
+without p (h ∷ hs) = cond (eqb p (h .0)) hs (h ∷ without p hs)
+
+abbrev pub onto-pile : Place → Pile → Pile
+onto-pile zero s = s
+onto-pile (suc k) s =
+    record {
+      holding = without (suc k) (s .holding);
+      returned = pile-label (suc k) (s .holding) ∷ s .returned;
+      fresh = s .fresh;
+    }
+
+abbrev pub topmost : Place → List (Place × Label) → List Label → Label → Pile
+topmost p hs [] l = record { holding = (p, l) ∷ hs; returned = []; fresh = suc l }
+topmost p hs (r ∷ rs) l = record { holding = (p, r) ∷ hs; returned = rs; fresh = l }
+
+abbrev pub from-pile : Place → Pile → Pile
+from-pile p s = cond (in-pile p (s .holding)) s (topmost p (s .holding) (s .returned) (s .fresh))
+
+unfoldable pub piled : List Gate → Pile → Pile
+piled [] s = s
+piled (g ∷ gs) s = piled gs (from-pile (g .false-place) (from-pile (g .true-place) (onto-pile (g .number) s)))
+
+abbrev pub last-pile : Expr → Pile
+last-pile e = piled (gates e) (record { holding = []; returned = []; fresh = first-label })
+
+-- "Merging two occurrences of a primitive into one gate": only the first literal of a primitive is kept
+unfoldable pub seen-in : ℕ → List Literal → Bool
+seen-in p [] = false
+seen-in p (x ∷ xs) = eqb p (x .primitive) || seen-in p xs
+
+unfoldable pub merged : List Literal → List Literal → List Literal
+merged before [] = []
+merged before (x ∷ xs) = cond (seen-in (x .primitive) before) (merged before xs) (x ∷ merged (x ∷ before) xs)
+
+-- figure 16 of the paper
+abbrev pub figure-16 : Expr
+figure-16 = expr "(1+2)*((3+4)*5)+(6*7+(8+9)*(10+11*12))"
+
+-- Each line: what is right, and what the slip makes of it.
+pub record NoSlip : Type 0 where
+  pub figure-16-needs-three : weave (turned figure-16) .label-count ≡ 3
+  pub largest-only-needs-four : weave (turned-by largest-only figure-16) .label-count ≡ 4
+  pub difference-starts-with-1 : order (turned (expr "1-2")) ≡ 1 ∷ 2 ∷ []
+  pub ties-too-start-with-2 : order (turned-by ties-too (expr "1-2")) ≡ 2 ∷ 1 ∷ []
+  pub product-needs-two : weave (turned (expr "1*2")) .label-count ≡ 2
+  pub late-needs-three : length (stored-by given-back-late (gates (turned (expr "1*2"))) []) ≡ 3
+  pub true-carries-0 : weave (turned (expr "5")) .true-label ≡ 0
+  pub false-first-carries-1 : label-of (true-end 1) (stored-by false-first (gates (turned (expr "5"))) []) ≡ 1
+  pub two-occurrences-two-gates : length (gates (turned (expr "7-7"))) ≡ 2
+  pub merged-one-gate : length (merged [] (in-order (turned (expr "7-7")))) ≡ 1
+  pub occurrences-differ : run-of (compiled (bytes "7-7") roomy) (true ∷ false ∷ []) ≡ result true
+  pub lowest-free-order : order (turned (expr "1+(2*3+4*5)")) ≡ 2 ∷ 3 ∷ 4 ∷ 5 ∷ 1 ∷ []
+  pub lowest-free-false : weave (turned (expr "1+(2*3+4*5)")) .false-label ≡ 1
+  pub last-returned-false : pile-label (false-end 5) (last-pile (turned (expr "1+(2*3+4*5)")) .holding) ≡ 2
+  pub three-costs-order : order (turned (expr "1+(2+3)*(4+5)+6")) ≡ 6 ∷ 2 ∷ 3 ∷ 4 ∷ 5 ∷ 1 ∷ []
+  pub two-largest-order : order (turned-by two-largest (expr "1+(2+3)*(4+5)+6")) ≡ 2 ∷ 3 ∷ 4 ∷ 5 ∷ 1 ∷ 6 ∷ []
+  pub place-by-place-order : order (turned (expr "1+(2+3)*(4+5)")) ≡ 2 ∷ 3 ∷ 4 ∷ 5 ∷ 1 ∷ []
+  pub smallest-second-order : order (turned-by smallest-second (expr "1+(2+3)*(4+5)")) ≡ 1 ∷ 2 ∷ 3 ∷ 4 ∷ 5 ∷ []
+  pub sum-second-order : order (turned-by sum-second (expr "1+(2+3)*(4+5)")) ≡ 1 ∷ 2 ∷ 3 ∷ 4 ∷ 5 ∷ []
+  pub settled-children-order : order (turned (expr "1+2*(3+4)")) ≡ 3 ∷ 4 ∷ 2 ∷ 1 ∷ []
+  pub unturned-children-order : order (turned-by unturned-children (expr "1+2*(3+4)")) ≡ 1 ∷ 3 ∷ 4 ∷ 2 ∷ []
