@@ -1,0 +1,6 @@
+pub mod Decimals
+pub mod Numerals
+pub mod Writing
+pub mod Parts
+pub mod Tables
+pub mod Examples
