@@ -1,0 +1,78 @@
+//! The wrapper over the library: results, refusals with their places, and what a refusal leaves in the buffer.
+
+use blist::{compile, gates, primitive, table_bytes, Refusal, Run, ROOM};
+
+fn refusal(number: u8, at: usize) -> Refusal {
+    Refusal { number, at }
+}
+
+const FIVE: [u8; 13] = [72, 1, 0, 2, 80, 5, 0, 0, 0, 1, 69, 0, 1];
+
+#[test]
+fn a_table_is_written_and_no_byte_behind_it() {
+    let mut room = [170; 20];
+    assert_eq!(compile(b"5", &mut room), Ok(&FIVE[..]));
+    assert_eq!(room[13..], [170; 7]);
+    assert_eq!(ROOM, 6151);
+    assert_eq!(table_bytes(1), 13);
+}
+
+#[test]
+fn a_refused_compile_has_written_nothing() {
+    let mut room = [170; 12];
+    assert_eq!(compile(b"5", &mut room), Err(refusal(8, 13)));
+    assert_eq!(compile(b"1+", &mut room), Err(refusal(5, 2)));
+    assert_eq!(compile(b"1024 &", &mut room), Err(refusal(2, 5)));
+    assert_eq!(room, [170; 12]);
+    assert_eq!(compile(b"", &mut []), Err(refusal(5, 0)));
+    assert_eq!(compile(b"5", &mut []), Err(refusal(8, 13)));
+}
+
+#[test]
+fn every_row_of_truths_ends_as_the_expression_says() {
+    let mut room = [0; ROOM];
+    let table = compile(b"1+2*3", &mut room).unwrap();
+    for row in 0..8 {
+        let inside = |solid: usize| row >> (solid - 1) & 1 == 1;
+        let mut run = Run::start(table).unwrap();
+        for gate in 0..gates(table).unwrap() {
+            run = run
+                .feed(table, inside(primitive(table, gate).unwrap()))
+                .unwrap();
+        }
+        assert_eq!(run.answer(table), Ok(inside(1) || inside(2) && inside(3)));
+    }
+}
+
+#[test]
+fn a_run_refuses_what_is_no_table_and_what_comes_too_soon_or_too_late() {
+    let start = Run::start(&FIVE).unwrap();
+    assert_eq!(start, Run { gate: 0, label: 0 });
+    assert_eq!(start.answer(&FIVE), Err(refusal(10, 0)));
+    let end = start.feed(&FIVE, false).unwrap();
+    assert_eq!(end, Run { gate: 1, label: 1 });
+    assert_eq!(end.answer(&FIVE), Ok(false));
+    assert_eq!(end.feed(&FIVE, true), Err(refusal(11, 1)));
+    assert_eq!(Run { gate: 1, label: 7 }.answer(&FIVE), Err(refusal(12, 7)));
+    assert_eq!(
+        Run {
+            gate: usize::MAX,
+            label: 0
+        }
+        .feed(&FIVE, true),
+        Err(refusal(11, usize::MAX))
+    );
+    let mut wrong = FIVE;
+    wrong[6] = 4;
+    assert_eq!(Run::start(&wrong), Err(refusal(9, 4)));
+    assert_eq!(Run::start(&FIVE[..12]), Err(refusal(9, 0)));
+    assert_eq!(Run::start(&[]), Err(refusal(9, 0)));
+}
+
+#[test]
+fn the_readers_of_a_table_answer_on_any_bytes() {
+    assert_eq!(gates(&FIVE), Some(1));
+    assert_eq!(primitive(&FIVE, 0), Some(5));
+    assert_eq!(gates(&[72, 1]), None);
+    assert_eq!(primitive(&FIVE, usize::MAX), None);
+}
