@@ -1,0 +1,96 @@
+//! The comparison tried on programs with a slip of their own: each slip is found, with an
+//! input that cannot be shortened; and the second program does not differ from itself.
+
+use compare::program::{Answered, Compiled, Fed, Moved, Program, Second};
+use compare::{material, tables, texts};
+
+#[derive(Clone, Copy, PartialEq)]
+enum Slip {
+    None,
+    PlaceOfRefusal5,
+    WritesOneByteMore,
+    WritesBeforeRefusing,
+    SwapsEnds,
+    LongTableAccepted,
+    LabelCutToSevenBits,
+    GateCutTo32Bits,
+    TruthIsOneOnly,
+}
+
+impl Program for Slip {
+    fn compile(&self, text: &[u8], out: &mut [u8]) -> Compiled {
+        let mut answer = Second.compile(text, out);
+        match self {
+            Slip::PlaceOfRefusal5 if answer.refusal == 5 && text.contains(&b'!') => answer.at += 1,
+            Slip::WritesOneByteMore if answer.refusal == 0 && out.len() > answer.length => {
+                out[answer.length] ^= 1;
+            }
+            Slip::WritesBeforeRefusing if answer.refusal == 8 && !out.is_empty() => out[0] ^= 1,
+            Slip::SwapsEnds if answer.length > 20 => out.swap(answer.length - 1, answer.length - 2),
+            _ => {}
+        }
+        answer
+    }
+
+    fn start(&self, table: &[u8]) -> Moved {
+        let kept = match table {
+            [kept @ .., _] if *self == Slip::LongTableAccepted => kept,
+            _ => table,
+        };
+        match Second.start(kept) {
+            accepted if accepted.refusal == 0 => accepted,
+            _ => Second.start(table),
+        }
+    }
+
+    fn feed(&self, mut fed: Fed, table: &[u8]) -> Moved {
+        match self {
+            Slip::LabelCutToSevenBits => fed.label &= 127,
+            Slip::GateCutTo32Bits => fed.gate &= 0xffff_ffff,
+            Slip::TruthIsOneOnly => fed.truth = u8::from(fed.truth == 1),
+            _ => {}
+        }
+        Second.feed(fed, table)
+    }
+
+    fn answer(&self, fed: Fed, table: &[u8]) -> Answered {
+        Second.answer(fed, table)
+    }
+}
+
+#[test]
+fn no_slip_no_difference() {
+    assert!(texts::compare(&Slip::None, 1, 2_000).is_ok());
+    assert!(tables::compare(&Slip::None, 1, 5_000).is_ok());
+    assert!(material::compare(&Slip::None).is_ok());
+}
+
+#[test]
+fn slips_of_compiling() {
+    let slips = [
+        (Slip::PlaceOfRefusal5, "text of 1 bytes \"!\""),
+        (Slip::WritesOneByteMore, "text of 1 bytes \""),
+        (Slip::WritesBeforeRefusing, "text of 1 bytes \""),
+        (Slip::SwapsEnds, "text of 5 bytes \""),
+    ];
+    for (slip, shortest) in slips {
+        let difference = texts::compare(&slip, 2, 20_000).unwrap_err();
+        assert!(difference.starts_with(shortest), "{difference}");
+    }
+    assert!(material::compare(&Slip::SwapsEnds).is_err());
+}
+
+#[test]
+fn slips_of_running() {
+    let slips = [
+        (Slip::LongTableAccepted, "table of 14 bytes", "start"),
+        (Slip::LabelCutToSevenBits, "table of 0 bytes", "feed"),
+        (Slip::GateCutTo32Bits, "table of 0 bytes", "feed"),
+        (Slip::TruthIsOneOnly, "table of 1", "feed"),
+    ];
+    for (slip, shortest, part) in slips {
+        let difference = tables::compare(&slip, 3, 20_000).unwrap_err();
+        assert!(difference.starts_with(shortest), "{difference}");
+        assert!(difference.contains(part), "{difference}");
+    }
+}

@@ -1,0 +1,65 @@
+//! The pump cover: two halves of one zigzag each, united, 300 literals in all. Mending one
+//! half alone lowers nothing, so the old way stops at nine labels.
+
+mod common;
+
+use second::old_way::{helpful_turns, label_count, old_way, turn_at};
+use second::positive::{positive, Node};
+use second::text;
+use std::collections::BTreeSet;
+
+const PUMP_COVER: &str = include_str!("../../examples/pump-cover.txt");
+
+fn as_typed(text: &str) -> Node {
+    positive(&text::read(text.as_bytes()).unwrap())
+}
+
+#[test]
+fn old_way_needs_nine_labels_and_ours_four() {
+    let node = as_typed(PUMP_COVER);
+    assert_eq!(node.literals(), 300);
+    assert_eq!(label_count(&node), 10);
+    let stop = old_way(node);
+    assert_eq!((stop.labels.count, stop.turns), (9, 1));
+    assert_eq!(stop.gates.len(), 300);
+    assert_eq!(common::label_count(PUMP_COVER), 4);
+}
+
+/// The label counts at which the old way can stop, whichever helpful turns it takes.
+fn stops(node: &Node) -> BTreeSet<usize> {
+    let mut counts = BTreeSet::new();
+    for operator in helpful_turns(node) {
+        let mut turned = node.clone();
+        turn_at(&mut turned, operator);
+        counts.extend(stops(&turned));
+    }
+    if counts.is_empty() {
+        counts.insert(label_count(node));
+    }
+    counts
+}
+
+#[test]
+fn no_choice_of_turns_saves_the_old_way() {
+    assert_eq!(stops(&as_typed(PUMP_COVER)), BTreeSet::from([9]));
+}
+
+#[test]
+fn each_half_alone_is_mended_by_the_old_way() {
+    let both = match as_typed(PUMP_COVER) {
+        Node::Operator(both) => both,
+        Node::Literal(_) => panic!("the pump cover is a union of two halves"),
+    };
+    for half in [both.left, both.right] {
+        assert_eq!(half.literals(), 150);
+        assert_eq!(label_count(&half), 9);
+        assert_eq!(old_way(half).labels.count, 3);
+    }
+}
+
+#[test]
+fn pump_cover_names_each_primitive_once() {
+    let mut primitives = common::order(PUMP_COVER);
+    primitives.sort_unstable();
+    assert!(primitives.into_iter().eq(0..300));
+}
