@@ -1,11 +1,11 @@
 -- Runs of stores: one run behind another is one run, and a run reads back as what it stored. Assumes nothing.
 use Prim.Native.Nat.{ℕ, suc, _+_, _≤_, _<_}
 use mathlib.Core.Path.{_≡_, refl, sym, ap, _∙_}
-use mathlib.Core.List.{List, [], _∷_, _++_, append-assoc}
+use mathlib.Core.List.{List, [], _∷_, _++_}
 use native.Mathlib.Nat.{le-refl, add-zero, add-suc, suc-add, zero-add}
 use native.Mathlib.Omega.{arith}
-use lib.ListN.{length, getD, set, take, drop, length-take, List·getD-append}
-use lib.Seq.{sets, sets-eq, set-comm, getD-append-add}
+use lib.ListN.{length, set, drop}
+use lib.Seq.{sets, sets-eq, set-comm}
 
 pub sets-append : (l : List ℕ) (i : ℕ) (xs ys : List ℕ) → sets l i (xs ++ ys) ≡ sets (sets l i xs) (i + length xs) ys
 sets-append l i [] ys = rw add-zero
@@ -30,12 +30,3 @@ sets-behind l i xs ys = sets-comm l i xs (i + length xs) ys (le-refl _) ∙ sym 
 -- a run from the front
 pub sets-front : (l xs : List ℕ) → length xs ≤ length l → sets l 0 xs ≡ xs ++ drop (length xs) l
 sets-front l xs h = sets-eq xs l 0 (omega arith) ∙ rw zero-add
-
--- what stands at the places of a run
-pub getD-sets : (l : List ℕ) (i : ℕ) (xs : List ℕ) (j : ℕ) → i + length xs ≤ length l → j < length xs → getD (sets l i xs) (i + j) 0 ≡ getD xs j 0
-getD-sets l i xs j h x =
-    let n : length (take i l) ≡ i = length-take i l ∙ omega arith in
-    ap (λ (m : List ℕ). getD m (i + j) 0) (sets-eq xs l i h ∙ append-assoc (take i l) xs (drop (i + length xs) l))
-    ∙ ap (λ (m : ℕ). getD (take i l ++ (xs ++ drop (i + length xs) l)) (m + j) 0) (sym n)
-    ∙ getD-append-add (take i l) (xs ++ drop (i + length xs) l) j 0
-    ∙ List·getD-append xs (drop (i + length xs) l) 0 j x

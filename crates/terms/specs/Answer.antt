@@ -5,7 +5,7 @@
 use Prim.Native.Nat.{ℕ}
 use mathlib.Core.Option.{Option, none, some}
 
--- "answers a result or one numbered refusal with a place"
+-- "answers either a result or one numbered refusal with a place" (scope 11)
 pub data Answer (A : Type 0) : Type 0 where
   result : A → Answer A
   refused : ℕ → ℕ → Answer A

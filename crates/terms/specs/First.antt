@@ -1,8 +1,8 @@
--- "The first such", as a statement and as a search.
+-- "the first such", as a statement and as a search.
 --   First P i        == i has P, and no number before it has
 --   first-from t i n == the first of the n numbers from i on that passes the test t
 --   first-below t n  == the first number below n that passes the test t
--- Assumes nothing.
+-- Assumes nothing. (scope 7.1)
 use Prim.Native.Nat.{ℕ, zero, suc, _<_}
 use mathlib.Core.Bool.{Bool, true, false}
 use mathlib.Core.Option.{Option, none, some}

@@ -1,4 +1,5 @@
 pub mod Terms
 pub mod Answer
 pub mod First
+pub mod Rows
 pub mod Texts

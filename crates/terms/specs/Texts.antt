@@ -1,6 +1,6 @@
 -- Texts written as one types them.
 --   bytes "1+2" == the bytes of that text
--- Assumes nothing.
+-- Assumes nothing. (scope 8.1)
 use Prim.Native.Nat.{ℕ}
 use Prim.Native.String.{String}
 use Prim.Native.Char.{code}
