@@ -9,18 +9,18 @@ use native.Mathlib.Omega.{arith}
 use lib.ListN.{length, drop, drop-of-length-le}
 use lib.Seq.{drop-cons}
 use Rattle.formula.specs.Typed.{Typed}
-use Rattle.text.specs.declared.Sign.{Sign}
-use Rattle.text.specs.declared.Sign.the-variants.{Digit, Plus, Times, Minus, Bang, Open, Close, Blank, Other}
+use Rattle.grammar.specs.declared.Sign.{Sign}
+use Rattle.grammar.specs.declared.Sign.the-variants.{Digit, Plus, Times, Minus, Bang, Open, Close, Blank, Other}
 use Rattle.text.specs.declared.scan.Mode.{Mode}
 use Rattle.text.specs.declared.scan.Mode.the-variants.{Wanted, Inside, Complete}
 use Rattle.text.specs.declared.scan.Step.{Step}
 use Rattle.text.specs.declared.scan.Step.the-variants.{Stuck, Go}
 use Rattle.text.specs.declared.scan.Verdict.{Verdict}
 use Rattle.text.specs.declared.scan.Verdict.the-variants.{Fits, Fault}
-use Rattle.text.specs.Bytes.{sign-of}
-use Rattle.text.specs.Places.{sign-at}
-use Rattle.text.specs.Reader.{Waiting, State, wanted, inside, complete, Next, stuck, go, closing, on-complete, step, closed, at-end, onward, Reading, means, stops, read-from, read}
-use Rattle.text.specs.Flat.{verdict, flat-close, flat-complete, flat-step, flat-closed, flat-end, flat-onward, flat-from}
+use Rattle.grammar.specs.Bytes.{sign-of}
+use Rattle.grammar.specs.twins.Places.{sign-at}
+use Rattle.grammar.specs.twins.Reader.{Waiting, State, wanted, inside, complete, Next, stuck, go, closing, on-complete, next-state, closed, at-end, onward, Outcome, means, stops, read-from, read}
+use Rattle.text.specs.code.Flat.{verdict, flat-close, flat-complete, flat-step, flat-closed, flat-end, flat-onward, flat-from}
 
 -- the reader's state and what it leads to, with nothing but the mode and the count
 abbrev mode-of : State → Mode
@@ -47,7 +47,7 @@ complete-agrees sum p Close outer = close-agrees _ outer
 complete-agrees sum p Blank outer = refl
 complete-agrees sum p Other outer = refl
 
-step-agrees : (st : State) (k : Sign) (outer : List Waiting) → step-of (step st k outer) ≡ flat-step (mode-of st) k (length outer)
+step-agrees : (st : State) (k : Sign) (outer : List Waiting) → step-of (next-state st k outer) ≡ flat-step (mode-of st) k (length outer)
 step-agrees (wanted w) (Digit d) outer = refl
 step-agrees (wanted w) Plus outer = refl
 step-agrees (wanted w) Times outer = refl
@@ -77,7 +77,7 @@ end-agrees (wanted w) outer at = refl
 end-agrees (inside w v) outer at = closed-agrees _ outer at
 end-agrees (complete sum p) outer at = closed-agrees _ outer at
 
-onward-agrees : (n : Next) (at : ℕ) (f : State → List Waiting → Reading) (g : Mode → ℕ → Verdict)
+onward-agrees : (n : Next) (at : ℕ) (f : State → List Waiting → Outcome) (g : Mode → ℕ → Verdict)
     → ((st : State) (outer : List Waiting) → verdict (f st outer) ≡ g (mode-of st) (length outer))
     → verdict (onward n at f) ≡ flat-onward (step-of n) at g
 onward-agrees stuck at f g same = refl
@@ -89,7 +89,7 @@ unfolding read-from flat-from
 from-agrees [] st outer at = end-agrees st outer at
 from-agrees (b ∷ s) st outer at =
     rw (← step-agrees st (sign-of b) outer)
-    (onward-agrees (step st (sign-of b) outer) at (λ st′ outer′. read-from st′ outer′ (suc at) s) (λ mode depth. flat-from mode depth (suc at) s)
+    (onward-agrees (next-state st (sign-of b) outer) at (λ st′ outer′. read-from st′ outer′ (suc at) s) (λ mode depth. flat-from mode depth (suc at) s)
     (λ st′ outer′. from-agrees s st′ outer′ (suc at)))
 
 pub flat-agrees : (text : List ℕ) → verdict (read text) ≡ flat-from Wanted 0 0 text
@@ -179,12 +179,12 @@ apart at h =
     omega arith
 
 -- what a verdict says of the reading
-pub fault-stops : (r : Reading) (at : ℕ) → verdict r ≡ Fault at → r ≡ stops at
+pub fault-stops : (r : Outcome) (at : ℕ) → verdict r ≡ Fault at → r ≡ stops at
 fault-stops (means e) at h = absurd (apart at h)
 fault-stops (stops p) at h =
     let e : p ≡ at = cc in
     rw e
 
-pub fits-means : (r : Reading) → verdict r ≡ Fits → (e : Typed) × (r ≡ means e)
+pub fits-means : (r : Outcome) → verdict r ≡ Fits → (e : Typed) × (r ≡ means e)
 fits-means (means e) h = (e, refl)
 fits-means (stops p) h = absurd (apart p (sym h))

@@ -1,13 +1,3 @@
-pub mod SignBytes
-pub mod Signs
-pub mod Complete
-pub mod Sound
-pub mod Longest
-pub mod Runs
-pub mod Passes
-pub mod Refusals
-pub mod Small
-pub mod Few
 pub mod ScanTests
 pub mod ScanFirst
 pub mod ScanRuns

@@ -11,16 +11,16 @@ use native.Mathlib.Omega.{arith}
 use lib.ListN.{length, set}
 use Rattle.formula.specs.Formula.{Kind, Expr, join}
 use Rattle.formula.specs.Typed.{Typed, plus, times, minus, numbers}
-use Rattle.formula.specs.Held.{nodes, join-number, Holds}
+use Rattle.formula.specs.code.Held.{nodes, join-number, Holds}
 use Rattle.formula.proofs.Held.{holds-joint, intersects}
-use Rattle.text.specs.declared.Sign.{Sign}
-use Rattle.text.specs.declared.Sign.the-variants.{Plus, Times, Minus}
+use Rattle.grammar.specs.declared.Sign.{Sign}
+use Rattle.grammar.specs.declared.Sign.the-variants.{Plus, Times, Minus}
 use Rattle.text.specs.declared.readers.Part.{Part}
 use Rattle.text.specs.declared.readers.Part.the-variants.{At, Fault}
-use Rattle.text.specs.Bytes.{is-digit}
-use Rattle.text.specs.Places.{sign-at}
-use Rattle.text.specs.Reader.{by-times, by-minus, Waiting, wanted, complete, complemented, added, step}
-use Rattle.text.specs.Readers.{behind, binding, after, form, Slots, slots, Kept, Ready, most-slots, FactorMeans, FactorStops, ProductMeans, ProductStops, SumMeans, SumStops, Built, PartRead, read, reads-on}
+use Rattle.grammar.specs.Bytes.{is-digit}
+use Rattle.grammar.specs.twins.Places.{sign-at}
+use Rattle.grammar.specs.twins.Reader.{by-times, by-minus, Waiting, wanted, complete, complemented, added, next-state}
+use Rattle.text.specs.code.Readers.{behind, binding, after, form, Slots, slots, Kept, Ready, most-slots, FactorMeans, FactorStops, ProductMeans, ProductStops, SumMeans, SumStops, Built, PartRead, read, reads-on}
 use Rattle.text.proofs.ReadSigns.{product-is, sum-is}
 use Rattle.text.proofs.ReadSteps.{beyond, step-on}
 use Rattle.text.proofs.ReadRuns.{runs-kept, clear-after}
@@ -148,14 +148,13 @@ module _ {M : List ℕ → ℕ → ℕ → Typed → Type 0} {lv : ℕ} {text : 
         kept = kept-trans first (k .kept) (kept-trans second (g .kept) (kept-set m _ _ c));
       })
 
--- a product
-pub product-first : {text : List ℕ} {at start next n : ℕ} {sense : Bool} {a b : Slots} → Built FactorMeans 3 text at sense start a b next n
-    → Built ProductMeans 3 text at sense start b b next n
-unfolding complemented
-product-first {start = start} {b = b} g =
+-- a chain starts with its first operand, and ends before an operator that binds less close
+chain-first : {M N : List ℕ → ℕ → ℕ → Typed → Type 0} {level : ℕ} {text : List ℕ} {at start next n : ℕ} {sense : Bool} {a b : Slots}
+    → (g : Built M level text at sense start a b next n) → N text at next (g .meaning) → Built N level text at sense start b b next n
+chain-first {start = start} {b = b} g means =
     record {
       meaning = g .meaning;
-      means = λ sum outer. g .means (after sum) outer;
+      means = means;
       past = g .past;
       within = g .within;
       ends = g .ends;
@@ -166,9 +165,9 @@ product-first {start = start} {b = b} g =
       kept = kept-refl start b;
     }
 
-pub product-end : {text : List ℕ} {at start i n : ℕ} {sense : Bool} {a z b : Slots} → Kept start a z → Built ProductMeans 3 text at sense start z b i n
-    → binding (sign-at text i) < 2 → Built ProductMeans 2 text at sense start a b i n
-product-end f k l =
+pub chain-end : {M : List ℕ → ℕ → ℕ → Typed → Type 0} {level below : ℕ} {text : List ℕ} {at start i n : ℕ} {sense : Bool} {a z b : Slots}
+    → Kept start a z → Built M level text at sense start z b i n → binding (sign-at text i) < below → Built M below text at sense start a b i n
+chain-end f k l =
     record {
       meaning = k .meaning;
       means = k .means;
@@ -182,6 +181,12 @@ product-end f k l =
       kept = kept-trans (omega arith) f (k .kept);
     }
 
+-- a product
+pub product-first : {text : List ℕ} {at start next n : ℕ} {sense : Bool} {a b : Slots} → Built FactorMeans 3 text at sense start a b next n
+    → Built ProductMeans 3 text at sense start b b next n
+unfolding complemented
+product-first g = chain-first {N = ProductMeans} g (λ sum outer. g .means (after sum) outer)
+
 module _ {text : List ℕ} {at start i n : ℕ} {sense : Bool} {a z b : Slots} (u : Ready text at start a) (f : Kept start a z)
     (k : Built ProductMeans 3 text at sense start z b i n) (h : 2 ≤ binding (sign-at text i)) where
   -- the machine at the operator
@@ -189,13 +194,13 @@ module _ {text : List ℕ} {at start i n : ℕ} {sense : Bool} {a z b : Slots} (
       → reads-on text (wanted (after sum)) outer at ≡ reads-on text (wanted (record { sum = sum; product = by-times (k .meaning); complements = 0 })) outer (i + 1)
   at-times e sum outer = k .means sum outer
       ∙ step-on text i (complete sum (k .meaning)) _ outer outer (binds-stands text i (omega arith))
-      (ap (λ (x : Sign). step (complete sum (k .meaning)) x outer) e)
+      (ap (λ (x : Sign). next-state (complete sum (k .meaning)) x outer) e)
 
   at-minus : sign-at text i ≡ Minus → (sum : Option Typed) (outer : List Waiting)
       → reads-on text (wanted (after sum)) outer at ≡ reads-on text (wanted (record { sum = sum; product = by-minus (k .meaning); complements = 0 })) outer (i + 1)
   at-minus e sum outer = k .means sum outer
       ∙ step-on text i (complete sum (k .meaning)) _ outer outer (binds-stands text i (omega arith))
-      (ap (λ (x : Sign). step (complete sum (k .meaning)) x outer) e)
+      (ap (λ (x : Sign). next-state (complete sum (k .meaning)) x outer) e)
 
   product-by : (sign-at text i ≡ Times) ⊎ (sign-at text i ≡ Minus) → {s : Bool} {c : Slots} {j m : ℕ} → s ≡ behind (sign-at text i) sense
       → Built FactorMeans 3 text (i + 1) s n b c j m → {ks ss : List ℕ} → ks ≡ set (c .kinds) m (join-number sense) → ss ≡ set (c .spans) m (m + 1 - start)
@@ -227,35 +232,7 @@ module _ {text : List ℕ} {at start i n : ℕ} {sense : Bool} {a z b : Slots} (
 -- a sum
 pub sum-first : {text : List ℕ} {at start next n : ℕ} {sense : Bool} {a b : Slots} → Built ProductMeans 2 text at sense start a b next n
     → Built SumMeans 2 text at sense start b b next n
-sum-first {start = start} {b = b} g =
-    record {
-      meaning = g .meaning;
-      means = record { sum = none; product = g .meaning; is = refl; reads = λ outer. g .means none outer };
-      past = g .past;
-      within = g .within;
-      ends = g .ends;
-      lower = g .lower;
-      counted = g .counted;
-      filled = g .filled;
-      holds = g .holds;
-      kept = kept-refl start b;
-    }
-
-pub sum-end : {text : List ℕ} {at start i n : ℕ} {sense : Bool} {a z b : Slots} → Kept start a z → Built SumMeans 2 text at sense start z b i n
-    → binding (sign-at text i) < 1 → Built SumMeans 1 text at sense start a b i n
-sum-end f k l =
-    record {
-      meaning = k .meaning;
-      means = k .means;
-      past = k .past;
-      within = k .within;
-      ends = k .ends;
-      lower = l;
-      counted = k .counted;
-      filled = k .filled;
-      holds = k .holds;
-      kept = kept-trans (omega arith) f (k .kept);
-    }
+sum-first g = chain-first {N = SumMeans} g (record { sum = none; product = g .meaning; is = refl; reads = λ outer. g .means none outer })
 
 module _ {text : List ℕ} {at start i n : ℕ} {sense : Bool} {a z b : Slots} (u : Ready text at start a) (f : Kept start a z)
     (k : Built SumMeans 2 text at sense start z b i n) (h : 1 ≤ binding (sign-at text i)) where
@@ -267,7 +244,7 @@ module _ {text : List ℕ} {at start i n : ℕ} {sense : Bool} {a z b : Slots} (
       let m = k .means in
       m .reads outer
       ∙ step-on text i (complete (m .sum) (m .product)) (wanted (after (some (added (m .sum) (m .product))))) outer outer (binds-stands text i h)
-      (ap (λ (x : Sign). step (complete (m .sum) (m .product)) x outer) here)
+      (ap (λ (x : Sign). next-state (complete (m .sum) (m .product)) x outer) here)
       ∙ ap (λ (x : Typed). reads-on text (wanted (after (some x))) outer (i + 1)) (m .is)
 
   pub sum-again : {s : Bool} {c : Slots} {j m : ℕ} → s ≡ behind (sign-at text i) sense

@@ -7,16 +7,16 @@ use mathlib.Core.List.{List, _∷_}
 use native.Mathlib.Omega.{arith}
 use lib.ListN.{length, set}
 use Rattle.formula.specs.Typed.{Typed, number, numbers}
-use Rattle.formula.specs.Held.{literal-number}
+use Rattle.formula.specs.code.Held.{literal-number}
 use Rattle.formula.proofs.Held.{holds-leaf}
-use Rattle.text.specs.declared.Sign.{Sign}
+use Rattle.grammar.specs.declared.Sign.{Sign}
 use Rattle.text.specs.declared.readers.Part.{Part}
 use Rattle.text.specs.declared.readers.Part.the-variants.{At, Fault}
 use Rattle.text.specs.declared.readers.Numeral.{Numeral}
-use Rattle.text.specs.Bytes.{is-digit}
-use Rattle.text.specs.Places.{sign-at, is-open, is-close}
-use Rattle.text.specs.Reader.{Waiting, nothing, wanted, complete, complemented, product-with, step, closing}
-use Rattle.text.specs.Readers.{leads, complementing, Slots, slots, most-slots, Ready, Skipped, Passed, Numbered, FactorMeans, FactorStops, SumMeans, Built, PartRead, read, FactorRead, SumRead, Closed, shut, missing, reads-on}
+use Rattle.grammar.specs.Bytes.{is-digit}
+use Rattle.grammar.specs.twins.Places.{sign-at, is-open, is-close}
+use Rattle.grammar.specs.twins.Reader.{Waiting, nothing, wanted, complete, complemented, product-with, next-state, closing}
+use Rattle.text.specs.code.Readers.{leads, complementing, Slots, slots, most-slots, Ready, Skipped, Passed, Numbered, FactorMeans, FactorStops, SumMeans, Built, PartRead, read, FactorRead, SumRead, Closed, shut, missing, reads-on}
 use Rattle.text.proofs.ReadSigns.{open-is, close-is, wanted-stuck, complete-stuck, binding-low}
 use Rattle.text.proofs.ReadSteps.{stands, step-on, step-stuck}
 use Rattle.text.proofs.ReadRuns.{runs-kept, clear-after}
@@ -131,7 +131,7 @@ module _ (text : List ℕ) (i : ℕ) (o : is-open (sign-at text i) ≡ true) whe
   opened : (w : Waiting) (outer : List Waiting) → reads-on text (wanted w) outer i ≡ reads-on text (wanted nothing) (w ∷ outer) (i + 1)
   opened w outer =
       step-on text i (wanted w) (wanted nothing) outer (w ∷ outer) (open-stands text i o)
-      (ap (λ (x : Sign). step (wanted w) x outer) (open-is (sign-at text i) o))
+      (ap (λ (x : Sign). next-state (wanted w) x outer) (open-is (sign-at text i) o))
 
   inner-shut : {j n l next : ℕ} {s : Bool} {a b : Slots} → Built SumMeans 1 text (i + 1) s next a b j n → is-close (sign-at text j) ≡ true → Skipped text (j + 1) l
       → Built FactorMeans 3 text i s next a b l n
@@ -146,7 +146,7 @@ module _ (text : List ℕ) (i : ℕ) (o : is-open (sign-at text i) ≡ true) whe
         means = λ w outer. opened w outer
             ∙ m .reads (w ∷ outer)
             ∙ step-on text j (complete (m .sum) (m .product)) (complete (w .sum) (product-with w e)) (w ∷ outer) outer (close-stands text j c)
-            (ap (λ (x : Sign). step (complete (m .sum) (m .product)) x (w ∷ outer)) here ∙ ap (λ (x : Typed). closing x (w ∷ outer)) (m .is))
+            (ap (λ (x : Sign). next-state (complete (m .sum) (m .product)) x (w ∷ outer)) here ∙ ap (λ (x : Typed). closing x (w ∷ outer)) (m .is))
             ∙ k .over .reads (w .sum) (product-with w e) outer;
         past = omega (arith, g .past, k .over .from);
         within = k .over .within;

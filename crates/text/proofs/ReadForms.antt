@@ -10,10 +10,10 @@ use lib.Seq.{getD-set-other}
 use Rattle.terms.specs.Terms.{Primitive}
 use Rattle.formula.specs.Formula.{Kind, union, intersection, Expr, join, literals}
 use Rattle.formula.specs.Typed.{Typed, number, complement, plus, times, minus, numbers, occurs, positive, negative}
-use Rattle.formula.specs.Held.{nodes, Holds}
+use Rattle.formula.specs.code.Held.{nodes, Holds}
 use Rattle.formula.proofs.Held.{nodes-literals, holds-kept, intersects}
-use Rattle.text.specs.Reader.{Waiting, complemented, product-with, multiplied}
-use Rattle.text.specs.Readers.{more, complementing, flipped, form, Slots, slots, Kept}
+use Rattle.grammar.specs.twins.Reader.{Waiting, complemented, product-with, multiplied}
+use Rattle.text.specs.code.Readers.{more, complementing, flipped, form, Slots, slots, Kept}
 
 pub numbers-some : (e : Typed) → 1 ≤ numbers e
 unfolding numbers

@@ -11,13 +11,13 @@ use native.Mathlib.Omega.{arith}
 use lib.ListN.{length}
 use Rattle.terms.specs.Terms.{greatest-primitive}
 use Rattle.formula.specs.Typed.{number}
-use Rattle.text.specs.declared.Sign.{Sign}
-use Rattle.text.specs.declared.Sign.the-variants.{Bang, Blank}
-use Rattle.text.specs.Run.{digit-of}
-use Rattle.text.specs.Bytes.{is-digit, numeral-from}
-use Rattle.text.specs.Places.{sign-at, no-digit-before, run-at, runs-before, bad-run}
-use Rattle.text.specs.Reader.{Waiting, wanted, inside, complete, product-with, step}
-use Rattle.text.specs.Readers.{is-blank, leads, behind, more, flipped, complementing, reads-on, Over, Passed, Numbered}
+use Rattle.grammar.specs.declared.Sign.{Sign}
+use Rattle.grammar.specs.declared.Sign.the-variants.{Bang, Blank}
+use Rattle.text.specs.code.DigitRun.{digit-of}
+use Rattle.grammar.specs.Bytes.{is-digit, numeral-from}
+use Rattle.grammar.specs.twins.Places.{sign-at, no-digit-before, run-at, runs-before, bad-run}
+use Rattle.grammar.specs.twins.Reader.{Waiting, wanted, inside, complete, product-with, next-state}
+use Rattle.text.specs.code.Readers.{is-blank, leads, behind, more, flipped, complementing, reads-on, Over, Passed, Numbered}
 use Rattle.text.proofs.ReadSigns.{pass-is, blank-is, digit-is, inside-ended, tested}
 use Rattle.text.proofs.ReadSteps.{stands, step-on, step-same}
 use Rattle.text.proofs.ReadRuns.{runs-kept, runs-start, runs-inside, clear-after, digit-after, number-small, numeral-step}
@@ -39,7 +39,7 @@ over-next {text} {at} {i} p e =
       within = omega arith;
       runs = runs-kept text i (ap is-digit k) ∙ p .runs;
       reads = λ sum x outer. p .reads sum x outer
-          ∙ step-on text i (complete sum x) (complete sum x) outer outer h (ap (λ (s : Sign). step (complete sum x) s outer) k);
+          ∙ step-on text i (complete sum x) (complete sum x) outer outer h (ap (λ (s : Sign). next-state (complete sum x) s outer) k);
     }
 
 -- blanks and complements before an operand
@@ -64,7 +64,7 @@ module _ {text : List ℕ} {at i : ℕ} {sense s : Bool} (p : Passed text at sen
         sensed = ap (λ (x : Sign). behind x s) k ∙ ap not (p .sensed);
         reads = λ w outer. p .reads w outer
             ∙ step-on text i (wanted (complementing (p .count) w)) (wanted (complementing (suc (p .count)) w)) outer outer h
-            (ap (λ (x : Sign). step (wanted (complementing (p .count) w)) x outer) k);
+            (ap (λ (x : Sign). next-state (wanted (complementing (p .count) w)) x outer) k);
       }
 
   passed-blank : sign-at text i ≡ Blank → Passed text at sense (i + 1) (behind (sign-at text i) s)
@@ -78,7 +78,7 @@ module _ {text : List ℕ} {at i : ℕ} {sense s : Bool} (p : Passed text at sen
         sensed = ap (λ (x : Sign). behind x s) k ∙ p .sensed;
         reads = λ w outer. p .reads w outer
             ∙ step-on text i (wanted (complementing (p .count) w)) (wanted (complementing (p .count) w)) outer outer h
-            (ap (λ (x : Sign). step (wanted (complementing (p .count) w)) x outer) k);
+            (ap (λ (x : Sign). next-state (wanted (complementing (p .count) w)) x outer) k);
       }
 
   passed-by : (sign-at text i ≡ Bang) ⊎ (sign-at text i ≡ Blank) → Passed text at sense (i + 1) (behind (sign-at text i) s)
@@ -119,7 +119,7 @@ digits-start text at d c b =
       cut = digit-after text at d;
       reads = λ w outer.
           step-on text at (wanted w) (inside w (digit-of (sign-at text at))) outer outer h
-          (ap (λ (x : Sign). step (wanted w) x outer) (digit-is (sign-at text at) d));
+          (ap (λ (x : Sign). next-state (wanted w) x outer) (digit-is (sign-at text at) d));
     }
 
 -- the same by what calls of `look` and `digit_of` gave
@@ -142,7 +142,7 @@ module _ {text : List ℕ} {at i v : ℕ} (p : Digits text at i v) where
         cut = digit-after text i d;
         reads = λ w outer. p .reads w outer
             ∙ step-on text i (inside w v) (inside w (10 * v + digit-of (sign-at text i))) outer outer h
-            (ap (λ (x : Sign). step (inside w v) x outer) (digit-is (sign-at text i) d));
+            (ap (λ (x : Sign). next-state (inside w v) x outer) (digit-is (sign-at text i) d));
       }
 
   pub digits-on : {k : Sign} {t : Bool} {d : ℕ} → k ≡ sign-at text i → t ≡ is-digit k → t ≡ true → d ≡ digit-of k → Digits text at (i + 1) (10 * v + d)

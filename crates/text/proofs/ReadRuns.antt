@@ -13,9 +13,9 @@ use lib.ListN.{length, getD}
 use borrow.Author.Tests.{ltb-false}
 use Rattle.terms.specs.Terms.{greatest-primitive}
 use Rattle.terms.specs.First.{found, first-from}
-use Rattle.text.specs.Run.{digit-of}
-use Rattle.text.specs.Bytes.{is-digit, numeral-from, numeral}
-use Rattle.text.specs.Places.{sign-at, no-digit-before, run-at, runs-before, bad-run-at, bad-run}
+use Rattle.text.specs.code.DigitRun.{digit-of}
+use Rattle.grammar.specs.Bytes.{is-digit, numeral-from, numeral}
+use Rattle.grammar.specs.twins.Places.{sign-at, no-digit-before, run-at, runs-before, bad-run-at, bad-run}
 use Rattle.text.proofs.ReadSigns.{clash}
 use Rattle.text.proofs.ScanBad.{digit-value, run-digit}
 

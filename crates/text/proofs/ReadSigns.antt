@@ -8,14 +8,14 @@ use mathlib.Core.Option.{Option}
 use mathlib.Core.List.{List}
 use native.Mathlib.Omega.{arith}
 use Rattle.formula.specs.Typed.{Typed, number}
-use Rattle.text.specs.declared.Sign.{Sign}
-use Rattle.text.specs.declared.Sign.the-variants.{Digit, Plus, Times, Minus, Bang, Open, Close, Blank, Other}
-use Rattle.text.specs.Run.{digit-of}
-use Rattle.text.specs.Bytes.{is-digit}
-use Rattle.text.specs.Places.{is-open, is-close}
-use Rattle.text.specs.Reader.{Waiting, added, product-with, stuck, closing, on-wanted, on-complete, on-inside}
+use Rattle.grammar.specs.declared.Sign.{Sign}
+use Rattle.grammar.specs.declared.Sign.the-variants.{Digit, Plus, Times, Minus, Bang, Open, Close, Blank, Other}
+use Rattle.text.specs.code.DigitRun.{digit-of}
+use Rattle.grammar.specs.Bytes.{is-digit}
+use Rattle.grammar.specs.twins.Places.{is-open, is-close}
+use Rattle.grammar.specs.twins.Reader.{Waiting, added, product-with, stuck, closing, on-wanted, on-complete, on-inside}
 use Rattle.text.proofs.ScanTests.{not-both}
-use Rattle.text.specs.Readers.{is-blank, leads, binding}
+use Rattle.text.specs.code.Readers.{is-blank, leads, binding}
 
 pub clash : false ≡ true → ⊥
 clash e = not-both false e refl

@@ -9,12 +9,12 @@ use native.Mathlib.Numerals.{add-one}
 use native.Mathlib.Omega.{arith}
 use lib.ListN.{length, getD, drop, drop-of-length-le, List·getD-eq-default}
 use lib.Seq.{drop-cons}
-use Rattle.text.specs.declared.Sign.{Sign}
-use Rattle.text.specs.declared.Sign.the-variants.{Other}
-use Rattle.text.specs.Bytes.{sign-of}
-use Rattle.text.specs.Places.{sign-at}
-use Rattle.text.specs.Reader.{Waiting, State, stops, stuck, go, step, at-end, read-from}
-use Rattle.text.specs.Readers.{reads-on}
+use Rattle.grammar.specs.declared.Sign.{Sign}
+use Rattle.grammar.specs.declared.Sign.the-variants.{Other}
+use Rattle.grammar.specs.Bytes.{sign-of}
+use Rattle.grammar.specs.twins.Places.{sign-at}
+use Rattle.grammar.specs.twins.Reader.{Waiting, State, stops, stuck, go, next-state, at-end, read-from}
+use Rattle.text.specs.code.Readers.{reads-on}
 use Rattle.text.proofs.ReadSigns.{clash}
 
 pub place-cons : (text : List ℕ) (i : ℕ) → i < length text → drop i text ≡ getD text i 0 ∷ drop (i + 1) text
@@ -33,16 +33,16 @@ stands text i test f e = go-on (decLt i (length text))
     go-on (no n) = absurd (clash (sym f ∙ sym (ap test (beyond text i (omega arith))) ∙ e))
 
 module _ (text : List ℕ) (i : ℕ) where
-  pub step-on : (st st′ : State) (outer outer′ : List Waiting) → i < length text → step st (sign-at text i) outer ≡ go st′ outer′
+  pub step-on : (st st′ : State) (outer outer′ : List Waiting) → i < length text → next-state st (sign-at text i) outer ≡ go st′ outer′
       → reads-on text st outer i ≡ reads-on text st′ outer′ (i + 1)
   unfolding read-from
   step-on st st′ outer outer′ h e = rw (place-cons text i h, e, add-one)
 
-  pub stuck-here : (st : State) (outer : List Waiting) → i < length text → step st (sign-at text i) outer ≡ stuck → reads-on text st outer i ≡ stops i
+  pub stuck-here : (st : State) (outer : List Waiting) → i < length text → next-state st (sign-at text i) outer ≡ stuck → reads-on text st outer i ≡ stops i
   unfolding read-from
   stuck-here st outer h e = rw (place-cons text i h, e)
 
-  pub step-stuck : (st : State) (outer : List Waiting) → i ≤ length text → step st (sign-at text i) outer ≡ stuck → at-end st outer i ≡ stops i
+  pub step-stuck : (st : State) (outer : List Waiting) → i ≤ length text → next-state st (sign-at text i) outer ≡ stuck → at-end st outer i ≡ stops i
       → reads-on text st outer i ≡ stops i
   unfolding read-from
   step-stuck st outer l e f = go-on (decLt i (length text))
@@ -52,7 +52,7 @@ module _ (text : List ℕ) (i : ℕ) where
       go-on (no n) = rw (drop-of-length-le text {i = i} (omega arith)) f
 
   -- two states that step alike here and end alike, read alike
-  pub step-same : (st st′ : State) (outer : List Waiting) → i ≤ length text → step st (sign-at text i) outer ≡ step st′ (sign-at text i) outer
+  pub step-same : (st st′ : State) (outer : List Waiting) → i ≤ length text → next-state st (sign-at text i) outer ≡ next-state st′ (sign-at text i) outer
       → at-end st outer i ≡ at-end st′ outer i → reads-on text st outer i ≡ reads-on text st′ outer i
   unfolding read-from
   step-same st st′ outer l e f = go-on (decLt i (length text))

@@ -3,7 +3,7 @@
 use Prim.Native.Nat.{ℕ, zero, suc, _+_, _-_, _*_, _/_, _≤_, _<_}
 use mathlib.Core.Path.{_≡_, refl, sym, ap, _∙_}
 use mathlib.Core.Bool.{true}
-use mathlib.Core.Option.{Option, none, some}
+use mathlib.Core.Option.{none}
 use mathlib.Core.List.{List, []}
 use native.Mathlib.Omega.{arith}
 use lib.ListN.{length, drop, drop-of-length-le}
@@ -11,7 +11,7 @@ use borrow.Author.Tests.{eqb-false, lt-ltb, le-ltb}
 use Rattle.terms.specs.Terms.{longest-text, most-literals}
 use Rattle.terms.specs.Answer.{refused}
 use Rattle.terms.specs.declared.Refusal.{Refusal}
-use Rattle.formula.specs.Typed.{Typed, positive}
+use Rattle.formula.specs.Typed.{positive}
 use Rattle.text.specs.declared.readers.Part.{Part}
 use Rattle.text.specs.declared.readers.Part.the-variants.{At, Fault}
 use Rattle.text.specs.declared.Early.{Early}
@@ -21,14 +21,15 @@ use Rattle.text.specs.declared.scan.Verdict as verdicts
 use Rattle.text.specs.declared.scan.Verdict.the-variants as verdicts-are
 use Rattle.text.specs.declared.scan.Found.{Found}
 use Rattle.text.specs.declared.scan.Found.the-variants as found-is
-use Rattle.text.specs.Places.{run-starts, runs-before, foreign-byte, bad-run, too-deep, surplus-at, surplus}
-use Rattle.text.specs.Reader.{complete, Reading, means, stops, read-from, read}
-use Rattle.text.specs.Reading.{typed-reading, reading}
-use Rattle.text.specs.Found.{found-as}
-use Rattle.text.specs.Flat.{verdict}
-use Rattle.text.specs.Readers.{Slots, slots, most-slots, Ready, SumMeans, SumStops, Built, Whole, WholeRead, form}
-use Rattle.text.specs.Answers.{Allowed, EarlyRight, passed, CrowdedRight, ReadRight, held}
-use Rattle.text.specs.Places.{sign-at}
+use Rattle.grammar.specs.twins.Places.{run-starts, runs-before, foreign-byte, bad-run, too-deep, surplus-at, surplus}
+use Rattle.grammar.specs.twins.Reader.{complete, means, stops, read-from, read}
+use Rattle.grammar.specs.twins.Reading.{typed-reading, reading}
+use Rattle.text.specs.code.Found.{found-as}
+use Rattle.text.specs.code.Flat.{verdict}
+use Rattle.text.specs.code.Readers.{Slots, slots, most-slots, Ready, SumMeans, SumStops, Built, Whole, WholeRead, form}
+use Rattle.text.specs.code.Answers.{Allowed, given, earlier, EarlyRight, passed, CrowdedRight, ReadRight, held}
+use Rattle.grammar.specs.twins.Places.{sign-at}
+use Rattle.text.proofs.Flat.{fault-stops, fits-means}
 use Rattle.text.proofs.ReadSigns.{complete-stuck}
 use Rattle.text.proofs.ReadSteps.{stuck-here}
 use Rattle.text.proofs.ReadRuns.{none-found}
@@ -43,14 +44,9 @@ module _ {text : List ℕ} {a b : Slots} {i n : ℕ} (g : Built SumMeans 1 text 
   whole-read u e =
       let m = g .means in
       let ended : drop i text ≡ [] = drop-of-length-le text {i = i} (omega arith) in
-      WholeRead.read {n = n}
-      (record {
-        meaning = g .meaning;
-        means = m .reads [] ∙ rw ended (ap means (m .is));
-        filled = omega (arith, g .filled);
-        fits = omega (arith, g .filled, g .counted, u .few, ap (runs-before text) e);
-        holds = g .holds 0;
-      })
+      let means-it : read text ≡ means (g .meaning) = m .reads [] ∙ rw ended (ap means (m .is)) in
+      let fits : n ≤ most-slots = omega (arith, g .filled, g .counted, u .few, ap (runs-before text) e) in
+      rw e (WholeRead.read {n = n} (record { meaning = g .meaning; means = means-it; filled = omega (arith, g .filled); fits = fits; holds = g .holds 0 }))
 
   pub whole-more : (i ≡ length text → ⊥) → WholeRead text b (Fault i)
   unfolding read
@@ -64,15 +60,6 @@ module _ {text : List ℕ} {a b : Slots} {i n : ℕ} (g : Built SumMeans 1 text 
 pub whole-fault : {text : List ℕ} {p : ℕ} (b : Slots) → SumStops text 0 p → WholeRead text b (Fault p)
 unfolding read
 whole-fault b g = WholeRead.fault (g [])
-
--- what the flat pass tells of the reading
-stops-there : (r : Reading) (p : ℕ) → verdict r ≡ verdicts-are.Fault p → r ≡ stops p
-stops-there (means e) p h = absurd (let z : _≡_ {A = ℕ} 0 1 = cc in omega arith)
-stops-there (stops q) p h = cc
-
-means-some : (r : Reading) → verdict r ≡ verdicts-are.Fits → (e : Typed) × (r ≡ means e)
-means-some (means e) h = (e, refl)
-means-some (stops q) h = absurd (let z : _≡_ {A = ℕ} 0 1 = cc in omega arith)
 
 -- where no number stands beyond the most literals, there are no more of them
 not-crowded : (text : List ℕ) (n : ℕ) → n ≤ length text → surplus text ≡ none → runs-before text n ≤ most-literals
@@ -88,43 +75,34 @@ not-crowded text (suc n) h e =
 module _ (text : List ℕ) where
   pub crowded-fault : {v : verdicts.Verdict} {p : ℕ} → v ≡ verdict (read text) → v ≡ verdicts-are.Fault p
       → CrowdedRight text (record { number = 5; at = p })
-  crowded-fault e f = rw (stops-there (read text) _ (sym e ∙ f))
+  crowded-fault e f = rw (fault-stops (read text) _ (sym e ∙ f))
 
   pub crowded-surplus : {v : verdicts.Verdict} {r : Found} {p : ℕ} → v ≡ verdict (read text) → v ≡ verdicts-are.Fits
       → found-as r ≡ surplus text → r ≡ found-is.At p → CrowdedRight text (record { number = 6; at = p })
-  crowded-surplus e f s t = rw (means-some (read text) (sym e ∙ f) .1, sym s ∙ ap found-as t)
+  crowded-surplus e f s t = rw (fits-means (read text) (sym e ∙ f) .1, sym s ∙ ap found-as t)
 
   pub crowded-never : {r : Found} → most-literals < runs-before text (length text) → found-as r ≡ surplus text → r ≡ found-is.Nowhere → ⊥
   crowded-never h s t = let few = not-crowded text (length text) (omega arith) (sym s ∙ ap found-as t) in omega arith
 
--- a pass that found a place, or none
-pub place-found : {r : Found} {o : Option ℕ} {p : ℕ} → found-as r ≡ o → r ≡ found-is.At p → o ≡ some p
-place-found s t = sym s ∙ ap found-as t
-
-pub none-there : {r : Found} {o : Option ℕ} → found-as r ≡ o → r ≡ found-is.Nowhere → o ≡ none
-none-there s t = sym s ∙ ap found-as t
-
--- refusals 1 to 4, each where no earlier one is given
+-- refusals 1 to 4
 module _ (text : List ℕ) where
   pub refused-long : longest-text < length text → reading text ≡ refused 1 longest-text
   unfolding reading typed-reading
   refused-long h = rw (lt-ltb longest-text (length text) h)
 
   module _ (h : length text ≤ longest-text) where
-    pub refused-foreign : {p : ℕ} → foreign-byte text ≡ some p → reading text ≡ refused 2 p
+    -- each pass found its row's place, and the rows are taken in their order
+    pub first-right : (f b d : Found) → found-as f ≡ foreign-byte text → found-as b ≡ bad-run text → found-as d ≡ too-deep text
+        → EarlyRight text (earlier (given 2 f) (earlier (given 3 b) (given 4 d)))
     unfolding reading typed-reading
-    refused-foreign e = rw (le-ltb longest-text (length text) h, e)
-
-    pub refused-run : {p : ℕ} → foreign-byte text ≡ none → bad-run text ≡ some p → reading text ≡ refused 3 p
-    unfolding reading typed-reading
-    refused-run f e = rw (le-ltb longest-text (length text) h, f, e)
-
-    pub refused-deep : {p : ℕ} → foreign-byte text ≡ none → bad-run text ≡ none → too-deep text ≡ some p → reading text ≡ refused 4 p
-    unfolding reading typed-reading
-    refused-deep f b e = rw (le-ltb longest-text (length text) h, f, b, e)
-
-    pub allowed : foreign-byte text ≡ none → bad-run text ≡ none → too-deep text ≡ none → Allowed text
-    allowed f b d = record { short = rw (le-ltb longest-text (length text) h); plain = f; sound = b; shallow = d }
+    first-right (found-is.At p) b d foreign run deep =
+        EarlyRight.refusal {r = record { number = 2; at = p }} (rw (le-ltb longest-text (length text) h, sym foreign))
+    first-right found-is.Nowhere (found-is.At p) d foreign run deep =
+        EarlyRight.refusal {r = record { number = 3; at = p }} (rw (le-ltb longest-text (length text) h, sym foreign, sym run))
+    first-right found-is.Nowhere found-is.Nowhere (found-is.At p) foreign run deep =
+        EarlyRight.refusal {r = record { number = 4; at = p }} (rw (le-ltb longest-text (length text) h, sym foreign, sym run, sym deep))
+    first-right found-is.Nowhere found-is.Nowhere found-is.Nowhere foreign run deep =
+        passed (record { short = rw (le-ltb longest-text (length text) h); plain = sym foreign; sound = sym run; shallow = sym deep })
 
 -- what the first refusals tell where there is none of them, and where there is one
 pub passes-on : {text : List ℕ} {r : Early} → r ≡ early.Passed → EarlyRight text r → Allowed text

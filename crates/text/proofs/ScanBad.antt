@@ -13,11 +13,11 @@ use lib.Seq.{drop-cons, getD-drop}
 use borrow.Author.Tests.{ltb-true, ltb-false, leb-false, eqb-true, eqb-false, lt-ltb}
 use Rattle.terms.specs.First.{first-from}
 use Rattle.terms.specs.Terms.{most-digits, greatest-primitive}
-use Rattle.text.specs.declared.Sign.{Sign}
-use Rattle.text.specs.declared.Sign.the-variants.{Plus, Times, Minus, Bang, Open, Close, Blank, Other}
-use Rattle.text.specs.Bytes.{sign-of, is-digit, zero-digit, nine-digit, shifted, numeral-from, numeral}
-use Rattle.text.specs.Places.{sign-at, no-digit-before, run-starts, leading-digits, run-at, too-large, bad-run-at}
-use Rattle.text.specs.Run.{digit-of, grown, RunRead}
+use Rattle.grammar.specs.declared.Sign.{Sign}
+use Rattle.grammar.specs.declared.Sign.the-variants.{Plus, Times, Minus, Bang, Open, Close, Blank, Other}
+use Rattle.grammar.specs.Bytes.{sign-of, is-digit, zero-digit, nine-digit, shifted, numeral-from, numeral}
+use Rattle.grammar.specs.twins.Places.{sign-at, no-digit-before, run-starts, leading-digits, run-at, too-large, bad-run-at}
+use Rattle.text.specs.code.DigitRun.{digit-of, grown, RunRead}
 use Rattle.text.proofs.ScanFirst.{first-skipped}
 use Rattle.text.proofs.ScanTests.{by-test, not-both}
 

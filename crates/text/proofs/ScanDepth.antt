@@ -16,11 +16,11 @@ use mir.Val.{SFits, toZ, ofZ}
 use mir.Facts.{toZ-ofZ}
 use borrow.Author.Tests.{ltb-true, ltb-false, lt-ltb, le-ltb}
 use Rattle.terms.specs.Terms.{deepest}
-use Rattle.text.specs.declared.Sign.{Sign}
-use Rattle.text.specs.declared.Sign.the-variants.{Digit, Plus, Times, Minus, Bang, Open, Close, Blank, Other}
-use Rattle.text.specs.Bytes.{sign-of}
-use Rattle.text.specs.Places.{sign-at, one-if, is-open, is-close, opened, shut, too-deep-at}
-use Rattle.text.specs.Level.{level, level-with}
+use Rattle.grammar.specs.declared.Sign.{Sign}
+use Rattle.grammar.specs.declared.Sign.the-variants.{Digit, Plus, Times, Minus, Bang, Open, Close, Blank, Other}
+use Rattle.grammar.specs.Bytes.{sign-of}
+use Rattle.grammar.specs.twins.Places.{sign-at, one-if, is-open, is-close, opened, shut, too-deep-at}
+use Rattle.text.specs.code.Level.{level, level-with}
 use Rattle.text.proofs.ScanTests.{by-test}
 
 -- what a call hands back is read as it was

@@ -11,8 +11,8 @@ use lib.Dec.{leb}
 use lib.ListN.{length}
 use borrow.Author.Tests.{leb-true, leb-false, eq-eqb, ne-eqb}
 use Rattle.terms.specs.Terms.{most-literals}
-use Rattle.text.specs.Bytes.{is-digit}
-use Rattle.text.specs.Places.{sign-at, no-digit-before, run-starts, one-if, runs-before, surplus-at, surplus}
+use Rattle.grammar.specs.Bytes.{is-digit}
+use Rattle.grammar.specs.twins.Places.{sign-at, no-digit-before, run-starts, one-if, runs-before, surplus-at, surplus}
 use Rattle.text.proofs.ScanFirst.{first-start, first-skipped, first-end}
 use Rattle.text.proofs.ScanTests.{by-test}
 

@@ -1,12 +1,1 @@
-pub mod Bytes
-pub mod Grammar
-pub mod Reader
-pub mod Places
-pub mod Rows
-pub mod Reading
-pub mod Found
-pub mod Level
-pub mod Run
-pub mod Flat
-pub mod Readers
-pub mod Answers
+pub mod code

@@ -1,22 +1,19 @@
 // From the bytes of a text to the expression that it means, or to the first of refusals 1 to 6.
-pub mod readers;
-pub mod scan;
+mod readers;
+mod scan;
 
 use crate::readers::Part;
 use crate::scan::Found;
-use crate::scan::MOST_LITERALS;
 use crate::scan::Verdict;
+use terms::LONGEST_TEXT;
+use terms::MOST_LITERALS;
 use terms::Refusal;
 ghost use mathlib.Core.Path.{_≡_};
 ghost use Prim.Native.Nat.{_<_};
 ghost use lib.ListN.{length};
 ghost use Rattle.terms.specs.Terms.{most-literals};
-ghost use Rattle.text.specs.Bytes.{sign-of};
-ghost use Rattle.text.specs.Places.{runs-before};
-ghost use Rattle.text.specs.Answers.{EarlyRight, CrowdedRight, ReadRight};
-
-// As many bytes as a text may have.
-const LONGEST_TEXT: usize = 16384;
+ghost use Rattle.grammar.specs.twins.Places.{runs-before};
+ghost use Rattle.text.specs.code.Answers.{given, earlier, EarlyRight, CrowdedRight, ReadRight};
 
 // What reading a text answers: how many literals the slices hold, with the root in the slot of twice that number less two;
 // or the first of refusals 1 to 6.
@@ -31,32 +28,23 @@ enum Early {
     Refused(Refusal),
 }
 
-// What a byte of a text stands for.
-pub enum Sign {
-    Digit(u8),
-    Plus,
-    Times,
-    Minus,
-    Bang,
-    Open,
-    Close,
-    Blank,
-    Other,
+// The refusal of such a number at the place that a pass found, if it found one.
+fn given(number: u8, found: Found) -> Early
+    ensures { λ r. ⌜ r ≡ given number found ⌝ }
+{
+    match found {
+        Found::At(p) => Early::Refused(Refusal { number, at: p }),
+        Found::Nowhere => Early::Passed,
+    }
 }
 
-pub fn sign_of(byte: u8) -> Sign
-    ensures { λ r. ⌜ r ≡ sign-of byte ⌝ }
+// The first of two that is a refusal.
+fn earlier(first: Early, then: Early) -> Early
+    ensures { λ r. ⌜ r ≡ earlier first then ⌝ }
 {
-    match byte {
-        48..=57 => Sign::Digit(byte - 48),
-        43 => Sign::Plus,
-        42 => Sign::Times,
-        45 => Sign::Minus,
-        33 => Sign::Bang,
-        40 => Sign::Open,
-        41 => Sign::Close,
-        32 | 10 => Sign::Blank,
-        _ => Sign::Other,
+    match first {
+        Early::Refused(refusal) => Early::Refused(refusal),
+        Early::Passed => then,
     }
 }
 
@@ -70,16 +58,10 @@ fn first_refusal(text: &[u8]) -> Early
             at: LONGEST_TEXT,
         });
     }
-    if let Found::At(p) = scan::foreign(text) {
-        return Early::Refused(Refusal { number: 2, at: p });
-    }
-    if let Found::At(p) = scan::bad_run(text) {
-        return Early::Refused(Refusal { number: 3, at: p });
-    }
-    if let Found::At(p) = scan::too_deep(text) {
-        return Early::Refused(Refusal { number: 4, at: p });
-    }
-    Early::Passed
+    let foreign = given(2, scan::foreign(text));
+    let run = given(3, scan::bad_run(text));
+    let deep = given(4, scan::too_deep(text));
+    earlier(foreign, earlier(run, deep))
 }
 
 // Refusal 5 or 6 of a text with more numbers than the most literals; nothing is built.
@@ -103,11 +85,14 @@ pub fn read(text: &[u8], kinds: &mut [u16; 2047], spans: &mut [u16; 2047]) -> Re
     match first_refusal(text) {
         Early::Refused(refusal) => Reading::Refused(refusal),
         Early::Passed => {
-            if MOST_LITERALS < scan::numbers(text) {
+            if (MOST_LITERALS as usize) < scan::numbers(text) {
                 return Reading::Refused(crowded(text));
             }
             match readers::whole(text, kinds, spans) {
-                Part::At(_, n) => Reading::Held((n + 1) / 2),
+                Part::At(_, n) => {
+                    let literals = (n + 1) / 2;
+                    Reading::Held(literals)
+                }
                 Part::Fault(p) => Reading::Refused(Refusal { number: 5, at: p }),
             }
         }

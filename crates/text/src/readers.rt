@@ -1,24 +1,24 @@
 // The readers: sum, product and factor call each other in a cycle and build the positive form as they read, an operator
 // behind its left and its right operand. They stop where no ending completes what stands before.
-use crate::Sign;
 use crate::scan::digit_of;
-use crate::scan::is_close;
-use crate::scan::is_digit;
-use crate::scan::is_open;
-use crate::sign_of;
 use formula::join_number;
 use formula::literal_number;
 use formula::put;
+use grammar::Sign;
+use grammar::is_close;
+use grammar::is_digit;
+use grammar::is_open;
+use grammar::sign_of;
 use terms::Primitive;
 ghost use mathlib.Core.Path.{_≡_};
 ghost use mathlib.Core.Bool.{true};
 ghost use mathlib.Core.Option.{none};
-ghost use Prim.Native.Nat.{ℕ, suc, _+_, _-_, _*_, _≤_, _<_};
+ghost use Prim.Native.Nat.{_+_, _-_, _*_, _≤_, _<_};
 ghost use lib.ListN.{length, set};
-ghost use Rattle.formula.specs.Held.{join-number};
-ghost use Rattle.text.specs.Bytes.{is-digit};
-ghost use Rattle.text.specs.Places.{sign-at, no-digit-before, bad-run};
-ghost use Rattle.text.specs.Readers.{is-blank, leads, behind, binding, most-slots, slots, Ready, Skipped, OperandAt, Numbered, FactorRead, ProductRead, SumRead, Closed, WholeRead};
+ghost use Rattle.formula.specs.code.Held.{join-number};
+ghost use Rattle.grammar.specs.Bytes.{is-digit};
+ghost use Rattle.grammar.specs.twins.Places.{sign-at, no-digit-before, bad-run};
+ghost use Rattle.text.specs.code.Readers.{is-blank, leads, behind, binding, most-slots, slots, Ready, Skipped, OperandAt, Numbered, FactorRead, ProductRead, SumRead, Closed, WholeRead};
 
 // The next place in the text and the next free slot; or the place where no ending completes the beginning.
 pub enum Part {
@@ -27,15 +27,15 @@ pub enum Part {
 }
 
 // Where an operand is to stand, and the sense that it is read in.
-pub struct Operand {
-    pub at: usize,
-    pub sense: bool,
+struct Operand {
+    at: usize,
+    sense: bool,
 }
 
 // A number, and the place behind it.
-pub struct Numeral {
-    pub value: Primitive,
-    pub next: usize,
+struct Numeral {
+    value: Primitive,
+    next: usize,
 }
 
 fn is_blank(sign: Sign) -> bool
@@ -219,7 +219,7 @@ fn join(kinds: &mut [u16], spans: &mut [u16], start: usize, n: usize, intersecti
 }
 
 // A factor: what stands behind its complements is a number, or an expression in parentheses.
-pub fn factor(
+fn factor(
     text: &[u8],
     at: usize,
     sense: bool,
@@ -244,7 +244,7 @@ pub fn factor(
 }
 
 // A product: factors joined by `*` or `-`, from the left.
-pub fn product(
+fn product(
     text: &[u8],
     at: usize,
     sense: bool,
@@ -279,7 +279,7 @@ pub fn product(
 }
 
 // A sum: products joined by `+`, from the left.
-pub fn sum(
+fn sum(
     text: &[u8],
     at: usize,
     sense: bool,
@@ -314,7 +314,7 @@ pub fn sum(
 }
 
 // What a whole text is, and what stands in parentheses: a sum.
-pub fn expression(
+fn expression(
     text: &[u8],
     at: usize,
     sense: bool,

@@ -1,8 +1,16 @@
 // Flat passes over a text, each one walk from the first byte on with nothing built: a byte not allowed, a run of digits that
 // is no number, parentheses too deep, how many numbers there are, the first of them beyond the most literals, and whether
 // the text is a sum by the grammar.
-use crate::Sign;
-use crate::sign_of;
+use grammar::Sign;
+use grammar::is_close;
+use grammar::is_digit;
+use grammar::is_open;
+use grammar::is_other;
+use grammar::sign_of;
+use terms::DEEPEST;
+use terms::GREATEST_PRIMITIVE;
+use terms::MOST_DIGITS;
+use terms::MOST_LITERALS;
 ghost use mathlib.Core.Path.{_≡_};
 ghost use mathlib.Core.Bool.{not, _&&_, _||_};
 ghost use Prim.Native.Nat.{_+_, _≤_, _<_};
@@ -13,94 +21,17 @@ ghost use lib.Signed.{ltZ};
 ghost use mir.Syntax.{w64};
 ghost use mir.Val.{Fits, SFits};
 ghost use Rattle.terms.specs.Terms.{most-digits, greatest-primitive, deepest};
-ghost use Rattle.text.specs.Bytes.{is-other, is-digit};
-ghost use Rattle.text.specs.Places.{is-open, is-close, foreign-byte, bad-run, too-deep, runs-before, surplus};
-ghost use Rattle.text.specs.Run.{digit-of, grown, RunRead};
-ghost use Rattle.text.specs.Reader.{read};
-ghost use Rattle.text.specs.Flat.{flat-wanted, flat-close, flat-complete, flat-inside, flat-step, flat-end, verdict};
-ghost use Rattle.text.specs.Level.{level-with};
-ghost use Rattle.text.specs.Found.{found-as};
+ghost use Rattle.grammar.specs.twins.Places.{is-open, foreign-byte, bad-run, too-deep, runs-before, surplus};
+ghost use Rattle.text.specs.code.DigitRun.{digit-of, grown, RunRead};
+ghost use Rattle.grammar.specs.twins.Reader.{read};
+ghost use Rattle.text.specs.code.Flat.{flat-wanted, flat-close, flat-complete, flat-inside, flat-step, flat-end, verdict};
+ghost use Rattle.text.specs.code.Level.{level-with};
+ghost use Rattle.text.specs.code.Found.{found-as};
 
 // A place in a text, if there is one.
 pub enum Found {
     At(usize),
     Nowhere,
-}
-
-// As many digits as a number may have.
-const MOST_DIGITS: usize = 4;
-
-// The greatest number of a primitive.
-const GREATEST_PRIMITIVE: u32 = 1023;
-
-// As many parentheses as may be open.
-const DEEPEST: i64 = 64;
-
-// As many literals as an expression may have.
-pub const MOST_LITERALS: usize = 1024;
-
-pub fn is_other(sign: Sign) -> bool
-    ensures { λ r. ⌜ r ≡ is-other sign ⌝ }
-{
-    match sign {
-        Sign::Digit(_) => false,
-        Sign::Plus => false,
-        Sign::Times => false,
-        Sign::Minus => false,
-        Sign::Bang => false,
-        Sign::Open => false,
-        Sign::Close => false,
-        Sign::Blank => false,
-        Sign::Other => true,
-    }
-}
-
-pub fn is_digit(sign: Sign) -> bool
-    ensures { λ r. ⌜ r ≡ is-digit sign ⌝ }
-{
-    match sign {
-        Sign::Digit(_) => true,
-        Sign::Plus => false,
-        Sign::Times => false,
-        Sign::Minus => false,
-        Sign::Bang => false,
-        Sign::Open => false,
-        Sign::Close => false,
-        Sign::Blank => false,
-        Sign::Other => false,
-    }
-}
-
-pub fn is_open(sign: Sign) -> bool
-    ensures { λ r. ⌜ r ≡ is-open sign ⌝ }
-{
-    match sign {
-        Sign::Digit(_) => false,
-        Sign::Plus => false,
-        Sign::Times => false,
-        Sign::Minus => false,
-        Sign::Bang => false,
-        Sign::Open => true,
-        Sign::Close => false,
-        Sign::Blank => false,
-        Sign::Other => false,
-    }
-}
-
-pub fn is_close(sign: Sign) -> bool
-    ensures { λ r. ⌜ r ≡ is-close sign ⌝ }
-{
-    match sign {
-        Sign::Digit(_) => false,
-        Sign::Plus => false,
-        Sign::Times => false,
-        Sign::Minus => false,
-        Sign::Bang => false,
-        Sign::Open => false,
-        Sign::Close => true,
-        Sign::Blank => false,
-        Sign::Other => false,
-    }
 }
 
 // What a digit stands for; nought for any other sign.
@@ -135,30 +66,30 @@ pub fn foreign(text: &[u8]) -> Found
 }
 
 // A run of digits: where it ends, and whether it has too many digits or too great a value.
-struct Run {
+struct DigitRun {
     end: usize,
     large: bool,
 }
 
 // One digit more behind a value; a value over the greatest primitive stays as it is, so that nothing wraps.
-fn grown(value: u32, digit: u8) -> u32
+fn grown(value: u16, digit: u8) -> u16
     ensures { λ r. ⌜ r ≡ grown value digit ⌝ }
 {
     if value <= GREATEST_PRIMITIVE {
-        return 10 * value + digit as u32;
+        return 10 * value + digit as u16;
     }
     value
 }
 
 // Whether so many digits with such a value are too large for a number.
-fn is_large(digits: usize, value: u32) -> bool
+fn is_large(digits: usize, value: u16) -> bool
     ensures { λ r. ⌜ r ≡ ltb most-digits digits || ltb greatest-primitive value ⌝ }
 {
     MOST_DIGITS < digits || GREATEST_PRIMITIVE < value
 }
 
 // The run of digits from a place on, which may be empty.
-fn run_from(text: &[u8], at: usize) -> Run
+fn run_from(text: &[u8], at: usize) -> DigitRun
     requires { ⌜ at ≤ length (now text) ⌝ }
     ensures { λ r. ⌜ RunRead (now (text .entry)) at (r .end) (r .large) ⌝ }
 {
@@ -167,7 +98,7 @@ fn run_from(text: &[u8], at: usize) -> Run
     while i < text.len() {
         let sign = sign_of(text[i]);
         if !is_digit(sign) {
-            return Run {
+            return DigitRun {
                 end: i,
                 large: is_large(i - at, value),
             };
@@ -175,7 +106,7 @@ fn run_from(text: &[u8], at: usize) -> Run
         value = grown(value, digit_of(sign));
         i += 1;
     }
-    Run {
+    DigitRun {
         end: i,
         large: is_large(i - at, value),
     }
@@ -285,7 +216,7 @@ pub fn surplus(text: &[u8]) -> Found
     while i < text.len() {
         let digit = is_digit(sign_of(text[i]));
         if starts(digit, inside) {
-            if count == MOST_LITERALS {
+            if count == MOST_LITERALS as usize {
                 return Found::At(i);
             }
             count += 1;

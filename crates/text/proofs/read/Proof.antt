@@ -14,6 +14,9 @@ enum-known-refusal c = search needs
 enum-told : tie.Need-enum-told
 enum-told c = search needs
 
+cast-if1 : tie.Need-cast-if1
+cast-if1 c = search needs
+
 numbers-requires : tie.Need-numbers-requires
 numbers-requires c κs = search needs
 
@@ -36,8 +39,8 @@ whole-requires c κs =
 enum-known-n : tie.Need-enum-known-n
 enum-known-n c = search needs
 
-add-t18 : tie.Need-add-t18
-add-t18 c =
+add-literals : tie.Need-add-literals
+add-literals c =
     let at-n = c .before in
     let at-whole = at-n .before .before in
     omega (arith, whole-got (at-n .n .given .1) (at-whole .whole .ensures) .fits)
@@ -76,12 +79,13 @@ read-spec =
     first-refusal-requires
     enum-known-refusal
     enum-told
+    cast-if1
     numbers-requires
     crowded-requires
     returns
     whole-requires
     enum-known-n
-    add-t18
+    add-literals
     enum-known-p
     returns-2
     returns-3

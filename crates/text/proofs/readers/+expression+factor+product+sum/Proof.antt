@@ -7,13 +7,13 @@ use mathlib.Core.Path.{ap, _∙_}
 use Prim.Native.Nat.{ℕ, _+_, _-_, _*_, _<_}
 use lib.ListN.{length}
 use denote.Ref.{now}
-use Rattle.text.specs.declared.Sign.{Sign}
-use Rattle.text.specs.Bytes.{is-digit}
-use Rattle.text.specs.Places.{is-open}
-use Rattle.text.specs.Readers.{behind, after, slots, ProductMeans, SumMeans, Built, PartRead, read}
+use Rattle.grammar.specs.declared.Sign.{Sign}
+use Rattle.grammar.specs.Bytes.{is-digit}
+use Rattle.grammar.specs.twins.Places.{is-open}
+use Rattle.text.specs.code.Readers.{behind, after, slots, ProductMeans, SumMeans, Built, PartRead, read}
 use Rattle.text.proofs.ReadSigns.{tested, binds-below, binds-from}
 use Rattle.text.proofs.ReadFactors.{prefixed, nothing-read, open-stands, ready-literal, ready-inner, inner-read}
-use Rattle.text.proofs.ReadChains.{got, missed, binds-stands, ready-next, room, product-first, product-end, product-again, product-late, sum-first, sum-end, sum-again, sum-late}
+use Rattle.text.proofs.ReadChains.{got, missed, binds-stands, ready-next, room, chain-end, product-first, product-again, product-late, sum-first, sum-again, sum-late}
 use borrow.Fn.Kinds.{In}
 use borrow.Fn.PlainCycle.{Measures, is, falls, and}
 use Rattle.text.proofs.readers.expression.Reads as expression
@@ -31,8 +31,8 @@ use Rattle.text.proofs.readers.+expression+factor+product+sum.Lts-sum a
 use Rattle.text.proofs.readers.behind.Reads as behind-reads
 use Rattle.text.proofs.readers.binding.Reads as binding-reads
 use Rattle.text.proofs.readers.closed.Reads as closed-reads
-use Rattle.text.proofs.scan.is_digit.Reads as is-digit-reads
-use Rattle.text.proofs.scan.is_open.Reads as is-open-reads
+use Rattle.grammar.proofs.is_digit.Reads as is-digit-reads
+use Rattle.grammar.proofs.is_open.Reads as is-open-reads
 use Rattle.text.proofs.readers.join.Reads as join-reads
 use Rattle.text.proofs.readers.literal.Reads as literal-reads
 use Rattle.text.proofs.readers.look.Reads as look-reads
@@ -240,7 +240,7 @@ product-returns t c =
     let at-loop = at-look .before in
     let at-first = at-loop .before .before in
     let at-factor = at-first .before .before .before .before .before .before in
-    read (product-end (got (at-first .first .given .1) (at-factor .factor .ensures) .kept) (at-loop .loop .inv) (binds-below (at-look .look .ensures) (at-binding .binding .ensures) (c .if1 .taken)))
+    read (chain-end (got (at-first .first .given .1) (at-factor .factor .ensures) .kept) (at-loop .loop .inv) (binds-below (at-look .look .ensures) (at-binding .binding .ensures) (c .if1 .taken)))
 
 product-add-factor : (t : ℕ) → product-lts.Need-add-factor (product-claims t) (product-at t) product.Post product-Inv-loop product-μ-loop
 product-add-factor t c =
@@ -408,7 +408,7 @@ sum-returns t c =
     let at-loop = at-look .before in
     let at-first = at-loop .before .before in
     let at-product = at-first .before .before .before .before .before .before in
-    read (sum-end (got (at-first .first .given .1) (at-product .product .ensures) .kept) (at-loop .loop .inv) (binds-below (at-look .look .ensures) (at-binding .binding .ensures) (c .if1 .taken)))
+    read (chain-end (got (at-first .first .given .1) (at-product .product .ensures) .kept) (at-loop .loop .inv) (binds-below (at-look .look .ensures) (at-binding .binding .ensures) (c .if1 .taken)))
 
 sum-add-product : (t : ℕ) → sum-lts.Need-add-product (sum-claims t) (sum-at t) sum.Post sum-Inv-loop sum-μ-loop
 sum-add-product t c =

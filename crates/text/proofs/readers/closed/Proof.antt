@@ -2,7 +2,7 @@
 use native.Mathlib.Omega.{arith}
 use Rattle.text.proofs.ReadSigns.{tested}
 use denote.Ref.{now}
-use Rattle.text.specs.Places.{is-close}
+use Rattle.grammar.specs.twins.Places.{is-close}
 use Rattle.text.proofs.ReadFactors.{closed-shut, closed-missing, closed-fault, close-stands}
 use borrow.Author.Needs.{needs}
 use Rattle.text.proofs.readers.closed.Statement.{statement}

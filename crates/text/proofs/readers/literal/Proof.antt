@@ -22,7 +22,8 @@ skip-requires c κs = search needs
 
 add-t17 : tie.Need-add-t17
 add-t17 c =
-    let at-number = c .before .before .before .before .before .before .before .before .before .before in
+    let at-before = c .before .before .before .before .before .before .before .before .before in
+    let at-number = at-before .before in
     let at-entry = at-number .before .before .before .before in
     let h = literal-fits (at-entry .pre .1) (at-number .number .ensures) in omega arith
 

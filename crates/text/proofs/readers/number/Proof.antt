@@ -5,7 +5,7 @@ use native.Mathlib.Omega.{arith}
 use Prim.Native.Nat.{_-_}
 use lib.ListN.{length}
 use denote.Ref.{now}
-use Rattle.text.specs.Bytes.{is-digit}
+use Rattle.grammar.specs.Bytes.{is-digit}
 use Rattle.text.proofs.ReadSigns.{tested}
 use Rattle.text.proofs.ReadPlaces.{Digits, digit-stands, digits-first, digits-small, digits-on, digits-end}
 use Rattle.text.proofs.readers.number.Statement.{statement}

@@ -5,7 +5,7 @@ use borrow.Author.Needs.{needs}
 use native.Mathlib.Omega.{arith}
 use Prim.Native.Nat.{_-_}
 use lib.ListN.{length}
-use Rattle.text.specs.Readers.{leads, Passed}
+use Rattle.text.specs.code.Readers.{leads, Passed}
 use Rattle.text.proofs.ReadPlaces.{passed-start, pass-stands, passed-on}
 use Rattle.text.proofs.readers.operand_at.Statement.{statement}
 use Rattle.text.proofs.readers.operand_at.Tie as tie

@@ -5,7 +5,7 @@ use borrow.Author.Needs.{needs}
 use native.Mathlib.Omega.{arith}
 use Prim.Native.Nat.{_-_}
 use lib.ListN.{length}
-use Rattle.text.specs.Readers.{is-blank, Over}
+use Rattle.text.specs.code.Readers.{is-blank, Over}
 use Rattle.text.proofs.ReadPlaces.{over-start, blank-stands, over-next}
 use Rattle.text.proofs.readers.skip.Statement.{statement}
 use Rattle.text.proofs.readers.skip.Tie as tie

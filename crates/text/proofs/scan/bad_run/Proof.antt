@@ -6,7 +6,7 @@ use native.Mathlib.Omega.{arith}
 use lib.ListN.{length}
 use borrow.Author.Needs.{needs}
 use Rattle.terms.specs.First.{first-from}
-use Rattle.text.specs.Places.{no-digit-before, bad-run, bad-run-at}
+use Rattle.grammar.specs.twins.Places.{no-digit-before, bad-run, bad-run-at}
 use Rattle.text.proofs.ScanFirst.{first-start, first-here, first-end}
 use Rattle.text.proofs.ScanBad.{bad-here, bad-walked, none-before-next}
 use Rattle.text.proofs.scan.bad_run.Statement.{statement}
@@ -27,23 +27,32 @@ run-from-requires c κs = search needs
 
 returns : tie.Need-returns Inv-loop μ-loop
 returns c =
-    let l = c .before .before .before .loop in
-    let h = c .before .before .loop-test .taken in
-    let r = c .before .run-from .ensures in
+    let at-run-from = c .before in
+    let at-loop-test = at-run-from .before in
+    let at-loop = at-loop-test .before in
+    let l = at-loop .loop in
+    let h = at-loop-test .loop-test .taken in
+    let r = at-run-from .run-from .ensures in
     sym (l .inv .1 ∙ first-here _ (l .i) _ h (bad-here _ (l .i) _ _ (l .inv .0) h r (c .if1 .taken)))
 
 add-i : tie.Need-add-i Inv-loop μ-loop
 add-i c = search needs
 
 loop-less : tie.Need-loop-less Inv-loop μ-loop
-loop-less c = let ends = c .before .before .run-from .ensures .ends in omega arith
+loop-less c =
+    let at-run-from = c .before .before in
+    let ends = at-run-from .run-from .ensures .ends in omega arith
 
 loop-again : tie.Need-loop-again Inv-loop μ-loop
 loop-again c =
-    let l = c .before .before .before .before .loop in
-    let h = c .before .before .before .loop-test .taken in
-    let r = c .before .before .run-from .ensures in
-    (none-before-next _ (l .i) _ _ (l .inv .0) h r, l .inv .1 ∙ bad-walked _ (l .i) _ _ (l .inv .0) h r (c .before .if1 .left))
+    let at-if1 = c .before in
+    let at-run-from = at-if1 .before in
+    let at-loop-test = at-run-from .before in
+    let at-loop = at-loop-test .before in
+    let l = at-loop .loop in
+    let h = at-loop-test .loop-test .taken in
+    let r = at-run-from .run-from .ensures in
+    (none-before-next _ (l .i) _ _ (l .inv .0) h r, l .inv .1 ∙ bad-walked _ (l .i) _ _ (l .inv .0) h r (at-if1 .if1 .left))
 
 returns-2 : tie.Need-returns-2 Inv-loop μ-loop
 returns-2 c = sym (c .before .loop .inv .1 ∙ first-end _ (c .before .loop .i) _ (c .loop-test .left))

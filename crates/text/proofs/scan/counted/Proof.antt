@@ -14,8 +14,11 @@ raised-requires c κs = search needs
 
 returns : tie.Need-returns
 returns c =
-    let is = sym (c .before .before .is-open .ensures) ∙ c .before .if1 .taken in
-    handed-back (c .raised .result) (c .raised .ok) ∙ rw is (rw (toZ-ofZ (c .before .before .before .fits .count)) at (c .raised .ensures))
+    let at-if1 = c .before in
+    let at-is-open = at-if1 .before in
+    let at-entry = at-is-open .before in
+    let is = sym (at-is-open .is-open .ensures) ∙ at-if1 .if1 .taken in
+    handed-back (c .raised .result) (c .raised .ok) ∙ rw is (rw (toZ-ofZ (at-entry .fits .count)) at (c .raised .ensures))
 
 is-close-requires : tie.Need-is-close-requires
 is-close-requires c κs = search needs
@@ -25,15 +28,24 @@ lowered-requires c κs = search needs
 
 returns-2 : tie.Need-returns-2
 returns-2 c =
-    let no-open = sym (c .before .before .before .before .is-open .ensures) ∙ c .before .before .before .if1 .left in
-    let is = sym (c .before .before .is-close .ensures) ∙ c .before .if2 .taken in
-    handed-back (c .lowered .result) (c .lowered .ok) ∙ rw (no-open, is) (rw (toZ-ofZ (c .before .before .before .before .before .fits .count)) at (c .lowered .ensures))
+    let at-if2 = c .before in
+    let at-is-close = at-if2 .before in
+    let at-if1 = at-is-close .before in
+    let at-is-open = at-if1 .before in
+    let at-entry = at-is-open .before in
+    let no-open = sym (at-is-open .is-open .ensures) ∙ at-if1 .if1 .left in
+    let is = sym (at-is-close .is-close .ensures) ∙ at-if2 .if2 .taken in
+    handed-back (c .lowered .result) (c .lowered .ok) ∙ rw (no-open, is) (rw (toZ-ofZ (at-entry .fits .count)) at (c .lowered .ensures))
 
 returns-3 : tie.Need-returns-3
 returns-3 c =
-    let no-open = sym (c .before .before .before .is-open .ensures) ∙ c .before .before .if1 .left in
-    let no-close = sym (c .before .is-close .ensures) ∙ c .if2 .left in
-    toZ-ofZ (c .before .before .before .before .fits .count) ∙ rw (no-open, no-close)
+    let at-is-close = c .before in
+    let at-if1 = at-is-close .before in
+    let at-is-open = at-if1 .before in
+    let at-entry = at-is-open .before in
+    let no-open = sym (at-is-open .is-open .ensures) ∙ at-if1 .if1 .left in
+    let no-close = sym (at-is-close .is-close .ensures) ∙ c .if2 .left in
+    toZ-ofZ (at-entry .fits .count) ∙ rw (no-open, no-close)
 
 pub counted-spec : {M : Type 1} → statement M
 counted-spec =

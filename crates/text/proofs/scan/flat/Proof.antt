@@ -6,8 +6,8 @@ use native.Mathlib.Omega.{arith}
 use lib.ListN.{length, drop}
 use borrow.Author.Needs.{needs}
 use Rattle.text.specs.declared.scan.Mode.the-variants.{Wanted}
-use Rattle.text.specs.Places.{sign-at}
-use Rattle.text.specs.Flat.{flat-step, flat-from}
+use Rattle.grammar.specs.twins.Places.{sign-at}
+use Rattle.text.specs.code.Flat.{flat-step, flat-from}
 use Rattle.text.proofs.Flat.{flat-agrees, flat-stuck, flat-next, flat-done, one-more}
 use Rattle.text.proofs.scan.flat.Statement.{statement}
 use Rattle.text.proofs.scan.flat.Tie as tie
@@ -42,11 +42,16 @@ enum-told c = search needs
 
 returns : tie.Need-returns Inv-loop μ-loop
 returns c =
-    let text = c .before .before .before .before .before .before .before .before .args .text .now in
-    let l = c .before .before .before .before .before .before .loop in
-    let h = c .before .before .before .before .before .loop-test .taken in
-    let here = ap (λ k. flat-step (l .mode) k (l .depth)) (sym (c .before .before .before .sign-of .ensures)) in
-    let e = here ∙ sym (c .before .before .flat-step .ensures) ∙ c .enum-told .given .1 in
+    let at-flat-step = c .before .before in
+    let at-sign-of = at-flat-step .before in
+    let at-loop-test = at-sign-of .before .before in
+    let at-loop = at-loop-test .before in
+    let at-entry = at-loop .before .before in
+    let text = at-entry .args .text .now in
+    let l = at-loop .loop in
+    let h = at-loop-test .loop-test .taken in
+    let here = ap (λ k. flat-step (l .mode) k (l .depth)) (sym (at-sign-of .sign-of .ensures)) in
+    let e = here ∙ sym (at-flat-step .flat-step .ensures) ∙ c .enum-told .given .1 in
     sym (flat-agrees text ∙ l .inv .2 ∙ flat-stuck text (l .i) (l .mode) (l .depth) h e)
 
 loop-less : tie.Need-loop-less Inv-loop μ-loop
@@ -54,11 +59,17 @@ loop-less c = search needs
 
 loop-again : tie.Need-loop-again Inv-loop μ-loop
 loop-again c =
-    let text = c .before .before .before .before .before .before .before .before .before .args .text .now in
-    let l = c .before .before .before .before .before .before .before .loop in
-    let h = c .before .before .before .before .before .before .loop-test .taken in
-    let here = ap (λ k. flat-step (l .mode) k (l .depth)) (sym (c .before .before .before .before .sign-of .ensures)) in
-    let e = here ∙ sym (c .before .before .before .flat-step .ensures) ∙ c .before .step .given .1 in
+    let at-step = c .before in
+    let at-flat-step = at-step .before .before in
+    let at-sign-of = at-flat-step .before in
+    let at-loop-test = at-sign-of .before .before in
+    let at-loop = at-loop-test .before in
+    let at-entry = at-loop .before .before in
+    let text = at-entry .args .text .now in
+    let l = at-loop .loop in
+    let h = at-loop-test .loop-test .taken in
+    let here = ap (λ k. flat-step (l .mode) k (l .depth)) (sym (at-sign-of .sign-of .ensures)) in
+    let e = here ∙ sym (at-flat-step .flat-step .ensures) ∙ at-step .step .given .1 in
     let more = one-more (l .mode) (sign-at text (l .i)) (l .depth) e in
     (search needs, omega (arith, l .inv .1, more), l .inv .2 ∙ flat-next text (l .i) (l .mode) (l .depth) h e)
 
@@ -67,9 +78,12 @@ flat-end-requires c κs = search needs
 
 returns-2 : tie.Need-returns-2 Inv-loop μ-loop
 returns-2 c =
-    let text = c .before .before .before .before .args .text .now in
-    let l = c .before .before .loop in
-    let done = flat-done text (l .i) (l .mode) (l .depth) (omega (arith, l .inv .0, c .before .loop-test .left)) in
+    let at-loop-test = c .before in
+    let at-loop = at-loop-test .before in
+    let at-entry = at-loop .before .before in
+    let text = at-entry .args .text .now in
+    let l = at-loop .loop in
+    let done = flat-done text (l .i) (l .mode) (l .depth) (omega (arith, l .inv .0, at-loop-test .loop-test .left)) in
     sym (flat-agrees text ∙ l .inv .2 ∙ done ∙ sym (c .flat-end .ensures))
 
 pub flat-spec : {M : Type 1} → statement M

@@ -4,8 +4,8 @@ use mathlib.Core.Path.{_≡_, sym, ap, _∙_}
 use lib.ListN.{length}
 use borrow.Author.Needs.{needs}
 use Rattle.terms.specs.First.{first-from}
-use Rattle.text.specs.Bytes.{is-other}
-use Rattle.text.specs.Places.{foreign-at, foreign-byte}
+use Rattle.grammar.specs.Bytes.{is-other}
+use Rattle.grammar.specs.twins.Places.{foreign-at, foreign-byte}
 use Rattle.text.proofs.ScanFirst.{first-start, first-passed, first-here, first-end}
 use Rattle.text.proofs.scan.foreign.Statement.{statement}
 use Rattle.text.proofs.scan.foreign.Tie as tie
@@ -30,9 +30,13 @@ is-other-requires c κs = search needs
 
 returns : tie.Need-returns Inv-loop μ-loop
 returns c =
-    let l = c .before .before .before .before .before .loop in
-    let here = sym (c .before .is-other .ensures ∙ ap is-other (c .before .before .sign-of .ensures)) in
-    sym (l .inv .1 ∙ first-here _ (l .i) _ (c .before .before .before .before .loop-test .taken) (here ∙ c .if1 .taken))
+    let at-is-other = c .before in
+    let at-sign-of = at-is-other .before in
+    let at-loop-test = at-sign-of .before .before in
+    let at-loop = at-loop-test .before in
+    let l = at-loop .loop in
+    let here = sym (at-is-other .is-other .ensures ∙ ap is-other (at-sign-of .sign-of .ensures)) in
+    sym (l .inv .1 ∙ first-here _ (l .i) _ (at-loop-test .loop-test .taken) (here ∙ c .if1 .taken))
 
 add-i : tie.Need-add-i Inv-loop μ-loop
 add-i c = search needs
@@ -42,9 +46,13 @@ loop-less c = search needs
 
 loop-again : tie.Need-loop-again Inv-loop μ-loop
 loop-again c =
-    let l = c .before .before .before .before .before .loop in
-    let here = sym (c .before .is-other .ensures ∙ ap is-other (c .before .before .sign-of .ensures)) in
-    (search needs, l .inv .1 ∙ first-passed _ (l .i) _ (c .before .before .before .before .loop-test .taken) (here ∙ c .if1 .left))
+    let at-is-other = c .before in
+    let at-sign-of = at-is-other .before in
+    let at-loop-test = at-sign-of .before .before in
+    let at-loop = at-loop-test .before in
+    let l = at-loop .loop in
+    let here = sym (at-is-other .is-other .ensures ∙ ap is-other (at-sign-of .sign-of .ensures)) in
+    (search needs, l .inv .1 ∙ first-passed _ (l .i) _ (at-loop-test .loop-test .taken) (here ∙ c .if1 .left))
 
 returns-2 : tie.Need-returns-2 Inv-loop μ-loop
 returns-2 c = sym (c .before .loop .inv .1 ∙ first-end _ (c .before .loop .i) _ (c .loop-test .left))

@@ -5,8 +5,8 @@ use mathlib.Core.Logic.{⊎-elim}
 use native.Mathlib.Omega.{arith}
 use lib.ListN.{length}
 use borrow.Author.Needs.{needs}
-use Rattle.text.specs.Bytes.{is-digit}
-use Rattle.text.specs.Places.{runs-before}
+use Rattle.grammar.specs.Bytes.{is-digit}
+use Rattle.grammar.specs.twins.Places.{runs-before}
 use Rattle.text.proofs.ScanRuns.{Counted, counted-none, counted-start, counted-pass}
 use Rattle.text.proofs.scan.numbers.Statement.{statement}
 use Rattle.text.proofs.scan.numbers.Tie as tie
@@ -43,10 +43,15 @@ loop-less c = search needs
 
 loop-again : tie.Need-loop-again Inv-loop μ-loop
 loop-again c =
-    let h = c .before .before .before .before .before .loop-test .taken in
-    let k = c .before .before .before .before .before .before .loop .inv in
-    let here = c .before .before .is-digit .ensures ∙ ap is-digit (c .before .before .before .sign-of .ensures) in
-    let told = c .before .starts .ensures in
+    let at-starts = c .before in
+    let at-is-digit = at-starts .before in
+    let at-sign-of = at-is-digit .before in
+    let at-loop-test = at-sign-of .before .before in
+    let at-loop = at-loop-test .before in
+    let h = at-loop-test .loop-test .taken in
+    let k = at-loop .loop .inv in
+    let here = at-is-digit .is-digit .ensures ∙ ap is-digit (at-sign-of .sign-of .ensures) in
+    let told = at-starts .starts .ensures in
     ⊎-elim (λ w. rw (w .1) (counted-start k here told h (w .0 .taken))) (λ w. rw (w .1) (counted-pass k here told h (w .0 .left))) (c .if1 .came)
 
 returns : tie.Need-returns Inv-loop μ-loop

@@ -5,7 +5,7 @@ use mathlib.Core.Path.{sym, ap, _∙_}
 use lib.ListN.{length}
 use borrow.Author.Tests.{not-true, not-false}
 use borrow.Author.Needs.{needs}
-use Rattle.text.specs.Bytes.{is-digit}
+use Rattle.grammar.specs.Bytes.{is-digit}
 use Rattle.text.proofs.ScanBad.{Running, running-start, running-next, running-over, run-none, run-end}
 use Rattle.text.proofs.scan.run_from.Statement.{statement}
 use Rattle.text.proofs.scan.run_from.Tie as tie
@@ -37,9 +37,14 @@ is-large-requires c κs = search needs
 
 returns : tie.Need-returns Inv-loop μ-loop
 returns c =
-    let l = c .before .before .before .before .before .before .loop in
-    let no-digit = sym (c .before .before .is-digit .ensures ∙ ap is-digit (c .before .before .before .sign-of .ensures)) ∙ not-true _ (c .before .if1 .taken) in
-    running-over (l .inv) (run-none _ (l .i) (c .before .before .before .before .before .loop-test .taken) no-digit) (c .is-large .ensures)
+    let at-if1 = c .before in
+    let at-is-digit = at-if1 .before in
+    let at-sign-of = at-is-digit .before in
+    let at-loop-test = at-sign-of .before .before in
+    let at-loop = at-loop-test .before in
+    let l = at-loop .loop in
+    let no-digit = sym (at-is-digit .is-digit .ensures ∙ ap is-digit (at-sign-of .sign-of .ensures)) ∙ not-true _ (at-if1 .if1 .taken) in
+    running-over (l .inv) (run-none _ (l .i) (at-loop-test .loop-test .taken) no-digit) (c .is-large .ensures)
 
 digit-of-requires : tie.Need-digit-of-requires Inv-loop μ-loop
 digit-of-requires c κs = search needs
@@ -55,11 +60,17 @@ loop-less c = search needs
 
 loop-again : tie.Need-loop-again Inv-loop μ-loop
 loop-again c =
-    let l = c .before .before .before .before .before .before .before .loop in
-    let h = c .before .before .before .before .before .before .loop-test .taken in
-    let here = c .before .before .before .before .sign-of .ensures in
-    let digit = sym (c .before .before .before .is-digit .ensures) ∙ not-false _ (c .before .before .if1 .left) in
-    running-next (l .inv) h here digit (c .before .digit-of .ensures) (c .grown .ensures)
+    let at-digit-of = c .before in
+    let at-if1 = at-digit-of .before in
+    let at-is-digit = at-if1 .before in
+    let at-sign-of = at-is-digit .before in
+    let at-loop-test = at-sign-of .before .before in
+    let at-loop = at-loop-test .before in
+    let l = at-loop .loop in
+    let h = at-loop-test .loop-test .taken in
+    let here = at-sign-of .sign-of .ensures in
+    let digit = sym (at-is-digit .is-digit .ensures) ∙ not-false _ (at-if1 .if1 .left) in
+    running-next (l .inv) h here digit (at-digit-of .digit-of .ensures) (c .grown .ensures)
 
 sub-is-large-2 : tie.Need-sub-is-large-2 Inv-loop μ-loop
 sub-is-large-2 c = search needs
@@ -69,8 +80,10 @@ is-large-requires-2 c κs = search needs
 
 returns-2 : tie.Need-returns-2 Inv-loop μ-loop
 returns-2 c =
-    let l = c .before .before .loop in
-    running-over (l .inv) (run-end _ (l .i) (c .before .loop-test .left)) (c .is-large2 .ensures)
+    let at-loop-test = c .before in
+    let at-loop = at-loop-test .before in
+    let l = at-loop .loop in
+    running-over (l .inv) (run-end _ (l .i) (at-loop-test .loop-test .left)) (c .is-large2 .ensures)
 
 pub run-from-spec : {M : Type 1} → statement M
 run-from-spec =

@@ -6,8 +6,8 @@ use mathlib.Core.Logic.{⊎-elim}
 use lib.ListN.{length}
 use borrow.Author.Needs.{needs}
 use Rattle.terms.specs.First.{first-from}
-use Rattle.text.specs.Bytes.{is-digit}
-use Rattle.text.specs.Places.{surplus-at, surplus}
+use Rattle.grammar.specs.Bytes.{is-digit}
+use Rattle.grammar.specs.twins.Places.{surplus-at, surplus}
 use Rattle.text.proofs.ScanFirst.{first-start, first-passed, first-here, first-end}
 use Rattle.text.proofs.ScanRuns.{Counted, counted-none, counted-start, counted-pass, surplus-here, surplus-unstarted, surplus-not-yet}
 use Rattle.text.proofs.scan.surplus.Statement.{statement}
@@ -34,13 +34,22 @@ is-digit-requires c κs = search needs
 starts-requires : tie.Need-starts-requires Inv-loop μ-loop
 starts-requires c κs = search needs
 
+cast-if2 : tie.Need-cast-if2 Inv-loop μ-loop
+cast-if2 c = search needs
+
 returns : tie.Need-returns Inv-loop μ-loop
 returns c =
-    let l = c .before .before .before .before .before .before .before .loop in
-    let here = c .before .before .before .is-digit .ensures ∙ ap is-digit (c .before .before .before .before .sign-of .ensures) in
-    let told = c .before .before .starts .ensures in
-    let at = surplus-here (l .inv .0) here told (c .before .if1 .taken) (c .if2 .taken) in
-    sym (l .inv .1 ∙ first-here _ (l .i) _ (c .before .before .before .before .before .before .loop-test .taken) at)
+    let at-if1 = c .before in
+    let at-starts = at-if1 .before in
+    let at-is-digit = at-starts .before in
+    let at-sign-of = at-is-digit .before in
+    let at-loop-test = at-sign-of .before .before in
+    let at-loop = at-loop-test .before in
+    let l = at-loop .loop in
+    let here = at-is-digit .is-digit .ensures ∙ ap is-digit (at-sign-of .sign-of .ensures) in
+    let told = at-starts .starts .ensures in
+    let at = surplus-here (l .inv .0) here told (at-if1 .if1 .taken) (c .if2 .taken) in
+    sym (l .inv .1 ∙ first-here _ (l .i) _ (at-loop-test .loop-test .taken) at)
 
 add-count : tie.Need-add-count Inv-loop μ-loop
 add-count c = search needs
@@ -53,10 +62,15 @@ loop-less c = search needs
 
 loop-again : tie.Need-loop-again Inv-loop μ-loop
 loop-again c =
-    let h = c .before .before .before .before .before .loop-test .taken in
-    let l = c .before .before .before .before .before .before .loop in
-    let here = c .before .before .is-digit .ensures ∙ ap is-digit (c .before .before .before .sign-of .ensures) in
-    let told = c .before .starts .ensures in
+    let at-starts = c .before in
+    let at-is-digit = at-starts .before in
+    let at-sign-of = at-is-digit .before in
+    let at-loop-test = at-sign-of .before .before in
+    let at-loop = at-loop-test .before in
+    let h = at-loop-test .loop-test .taken in
+    let l = at-loop .loop in
+    let here = at-is-digit .is-digit .ensures ∙ ap is-digit (at-sign-of .sign-of .ensures) in
+    let told = at-starts .starts .ensures in
     ⊎-elim
     (λ w.
     let not-yet = surplus-not-yet (l .inv .0) here told (w .0 .taken) (w .1 .left) in
@@ -80,6 +94,7 @@ surplus-spec =
     sign-of-requires
     is-digit-requires
     starts-requires
+    cast-if2
     returns
     add-count
     add-i

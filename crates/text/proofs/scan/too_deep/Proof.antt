@@ -8,8 +8,8 @@ use mir.Syntax.{w64}
 use mir.Val.{toZ}
 use borrow.Author.Needs.{needs}
 use Rattle.terms.specs.First.{first-from}
-use Rattle.text.specs.Places.{too-deep, too-deep-at}
-use Rattle.text.specs.Level.{level}
+use Rattle.grammar.specs.twins.Places.{too-deep, too-deep-at}
+use Rattle.text.specs.code.Level.{level}
 use Rattle.text.proofs.ScanFirst.{first-start, first-passed, first-here, first-end}
 use Rattle.text.proofs.ScanDepth.{raised-fits, lowered-fits, handed-back, level-none, level-walked, passes-told}
 use Rattle.text.proofs.scan.too_deep.Statement.{statement}
@@ -33,10 +33,13 @@ sign-of-requires c κs = search needs
 
 counted-requires : tie.Need-counted-requires Inv-loop μ-loop
 counted-requires c κs =
-    let text = c .before .before .before .before .before .args .text .now in
-    let l = c .before .before .before .loop in
-    let h = c .before .before .loop-test .taken in
-    let long : length text < 2 ^ 63 = omega (arith, c .before .before .before .before .before .good) in
+    let at-loop-test = c .before .before in
+    let at-loop = at-loop-test .before in
+    let at-entry = at-loop .before .before in
+    let text = at-entry .args .text .now in
+    let l = at-loop .loop in
+    let h = at-loop-test .loop-test .taken in
+    let long : length text < 2 ^ 63 = omega (arith, at-entry .good) in
     (rw (l .inv .1) (raised-fits text (l .i) h long), rw (l .inv .1) (lowered-fits text (l .i) h long))
 
 passes-requires : tie.Need-passes-requires Inv-loop μ-loop
@@ -44,13 +47,19 @@ passes-requires c κs = search needs
 
 returns : tie.Need-returns Inv-loop μ-loop
 returns c =
-    let text = c .before .before .before .before .before .before .before .before .args .text .now in
-    let l = c .before .before .before .before .before .before .loop in
-    let h = c .before .before .before .before .before .loop-test .taken in
-    let here = c .before .before .before .sign-of .ensures in
-    let call = c .before .before .counted in
+    let at-passes = c .before in
+    let at-counted = at-passes .before in
+    let at-sign-of = at-counted .before in
+    let at-loop-test = at-sign-of .before .before in
+    let at-loop = at-loop-test .before in
+    let at-entry = at-loop .before .before in
+    let text = at-entry .args .text .now in
+    let l = at-loop .loop in
+    let h = at-loop-test .loop-test .taken in
+    let here = at-sign-of .sign-of .ensures in
+    let call = at-counted .counted in
     let behind = handed-back (call .result) (call .ok) ∙ call .ensures in
-    let told = passes-told text (l .i) here behind h (l .inv .1) (c .before .passes .ensures) in
+    let told = passes-told text (l .i) here behind h (l .inv .1) (at-passes .passes .ensures) in
     sym (l .inv .2 ∙ first-here _ (l .i) _ h (told ∙ c .if1 .taken))
 
 add-i : tie.Need-add-i Inv-loop μ-loop
@@ -61,13 +70,19 @@ loop-less c = search needs
 
 loop-again : tie.Need-loop-again Inv-loop μ-loop
 loop-again c =
-    let text = c .before .before .before .before .before .before .before .before .args .text .now in
-    let l = c .before .before .before .before .before .before .loop in
-    let h = c .before .before .before .before .before .loop-test .taken in
-    let here = c .before .before .before .sign-of .ensures in
-    let call = c .before .before .counted in
+    let at-passes = c .before in
+    let at-counted = at-passes .before in
+    let at-sign-of = at-counted .before in
+    let at-loop-test = at-sign-of .before .before in
+    let at-loop = at-loop-test .before in
+    let at-entry = at-loop .before .before in
+    let text = at-entry .args .text .now in
+    let l = at-loop .loop in
+    let h = at-loop-test .loop-test .taken in
+    let here = at-sign-of .sign-of .ensures in
+    let call = at-counted .counted in
     let behind = handed-back (call .result) (call .ok) ∙ call .ensures in
-    let told = passes-told text (l .i) here behind h (l .inv .1) (c .before .passes .ensures) in
+    let told = passes-told text (l .i) here behind h (l .inv .1) (at-passes .passes .ensures) in
     let on = first-passed (too-deep-at text) (l .i) _ h (told ∙ c .if1 .left) in
     (search needs, level-walked text (l .i) here behind h (l .inv .1), l .inv .2 ∙ on)
 

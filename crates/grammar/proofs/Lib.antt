@@ -1,0 +1,10 @@
+pub mod SignBytes
+pub mod Signs
+pub mod Complete
+pub mod Sound
+pub mod Longest
+pub mod Runs
+pub mod Passes
+pub mod Refusals
+pub mod Small
+pub mod Few

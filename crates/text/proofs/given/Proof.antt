@@ -1,0 +1,19 @@
+-- `given` is right because it goes by whether the pass found a place. Assumes nothing.
+use borrow.Author.Needs.{needs}
+use Rattle.text.proofs.given.Statement.{statement}
+use Rattle.text.proofs.given.Tie as tie
+
+enum-known-found : tie.Need-enum-known-found
+enum-known-found c = search needs
+
+enum-told : tie.Need-enum-told
+enum-told c = search needs
+
+returns : tie.Need-returns
+returns c = rw (c .before .found .given .1)
+
+returns-2 : tie.Need-returns-2
+returns-2 c = search needs
+
+pub given-spec : {M : Type 1} → statement M
+given-spec = tie.close (tie.spec enum-known-found enum-told returns returns-2)
