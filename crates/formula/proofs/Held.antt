@@ -1,18 +1,18 @@
 -- An expression that slots hold fits in front of its root, tells its size there, and is still held where only other slots change.
 -- Assumes nothing.
 use Prim.Native.Nat.{ℕ, suc, _+_, _-_, _*_, _/_, _%_, _≤_, _<_}
-use mathlib.Core.Path.{_≡_, refl, sym, ap, _∙_}
-use mathlib.Core.Bool.{Bool, true, false, cond}
+use mathlib.Core.Path.{_≡_, refl, _∙_}
+use mathlib.Core.Bool.{Bool, true, false}
 use mathlib.Core.List.{List}
 use native.Mathlib.Nat.{le-refl}
 use native.Mathlib.Omega.{arith}
 use lib.ListN.{length, getD, set, length-set}
 use lib.Seq.{getD-set-same, getD-set-other}
 use borrow.Author.Tests.{eq-eqb, ne-eqb}
-use Rattle.formula.specs.declared.Kind.the-variants.{Union, Intersection, Literal}
+use Rattle.formula.specs.declared.Kind.the-variants.{Literal}
 use Rattle.formula.specs.Formula as formula
 use Rattle.formula.specs.Formula.{Kind, union, intersection, Expr, literal, join, literals}
-use Rattle.formula.specs.Held.{nodes, kind-of, literal-number, join-number, operator-kind, Leaf, Joint, Holds, leaf, joint}
+use Rattle.formula.specs.code.Held.{nodes, node-kind, literal-number, join-number, operator-kind, Holds, leaf, joint}
 
 -- each node but the first literal has an operator or a literal to its side
 pub nodes-literals : (e : Expr) → nodes e + 1 ≡ 2 * literals e
@@ -95,11 +95,11 @@ pub holds-set : {ks ss : List ℕ} {i : ℕ} {e : Expr} (n k s : ℕ) → i < n 
 holds-set {ks} {ss} {i} {e} n k s below h = holds-kept h (agrees-set ks n k i (nodes e) below) (agrees-set ss n s i (nodes e) below)
 
 -- a number and what it stands for
-pub kind-of-literal : (p : ℕ) (sense : Bool) → kind-of (literal-number p sense) ≡ Literal (record { 0 = p }) sense
-kind-of-literal p true =
+pub node-kind-literal : (p : ℕ) (sense : Bool) → node-kind (literal-number p sense) ≡ Literal (record { 0 = p }) sense
+node-kind-literal p true =
     let e : (2 * p + 3 - 2) / 2 ≡ p = omega arith in
     simp (ne-eqb (2 * p + 3) 0 (λ h. omega arith), ne-eqb (2 * p + 3) 1 (λ h. omega arith), eq-eqb ((2 * p + 3) % 2) 1 (omega arith), e)
-kind-of-literal p false =
+node-kind-literal p false =
     let e : (2 * p + 2 - 2) / 2 ≡ p = omega arith in
     simp (ne-eqb (2 * p + 2) 0 (λ h. omega arith), ne-eqb (2 * p + 2) 1 (λ h. omega arith), ne-eqb ((2 * p + 2) % 2) 1 (λ h. omega arith), e)
 
@@ -108,9 +108,9 @@ abbrev pub intersects : Kind → Bool
 intersects union = false
 intersects intersection = true
 
-pub kind-of-join : (k : Kind) → kind-of (join-number (intersects k)) ≡ operator-kind k
-kind-of-join union = refl
-kind-of-join intersection = refl
+pub node-kind-join : (k : Kind) → node-kind (join-number (intersects k)) ≡ operator-kind k
+node-kind-join union = refl
+node-kind-join intersection = refl
 
 -- a literal stored in the slot n
 pub holds-leaf : (ks ss : List ℕ) (n : ℕ) (x : formula.Literal) → n < length ks → n < length ss
@@ -120,7 +120,7 @@ holds-leaf ks ss n x hk hs =
     (record {
       kind-within = rw length-set hk;
       span-within = rw length-set hs;
-      kind = rw (getD-set-same ks n _ 0 hk) (kind-of-literal (x .primitive) (x .sense));
+      kind = rw (getD-set-same ks n _ 0 hk) (node-kind-literal (x .primitive) (x .sense));
       span = getD-set-same ss n 1 0 hs;
     })
 
@@ -134,7 +134,7 @@ holds-joint ks ss n k l r hk hs fits a b =
     (record {
       kind-within = rw length-set hk;
       span-within = rw length-set hs;
-      kind = rw (getD-set-same ks n _ 0 hk) (kind-of-join k);
+      kind = rw (getD-set-same ks n _ 0 hk) (node-kind-join k);
       fits = fits;
       span = getD-set-same ss n _ 0 hs;
     })

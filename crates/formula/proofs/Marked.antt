@@ -1,18 +1,18 @@
 -- A row of marks that a slice holds has one mark an operator, so it splits where the operands do; and it is still held where
 -- only other slots change. Assumes nothing.
-use Prim.Native.Nat.{ℕ, suc, _+_, _-_, _≤_, _<_}
+use Prim.Native.Nat.{ℕ, suc, _+_, _≤_, _<_}
 use mathlib.Core.Path.{_≡_, refl, sym, ap, ap₂, _∙_}
-use mathlib.Core.Bool.{Bool, true, false}
+use mathlib.Core.Bool.{Bool}
 use mathlib.Core.List.{List, [], _∷_, _++_}
 use native.Mathlib.Nat.{le-refl}
 use native.Mathlib.Omega.{arith}
-use lib.ListN.{length, getD, take, drop, length-append}
+use lib.ListN.{length, getD, length-append}
 use lib.Seq.{take-append-seam, drop-append-seam}
-use Rattle.formula.specs.Formula.{Kind, Expr, literal, join, operators}
+use Rattle.formula.specs.Formula.{Kind, Expr, join, operators}
 use Rattle.formula.specs.Marks.{placed, arranged}
-use Rattle.formula.specs.Held.{nodes}
-use Rattle.formula.specs.Marked.{mark-byte, Marked, leaf, joint}
-use Rattle.formula.proofs.Held.{nodes-some, Agrees, agrees-part}
+use Rattle.formula.specs.code.Held.{nodes}
+use Rattle.formula.specs.code.Marked.{Marked, leaf, joint}
+use Rattle.formula.proofs.Held.{nodes-some}
 
 pub marked-length : {bs : List ℕ} {i : ℕ} {e : Expr} {ms : List Bool} → Marked bs i e ms → length ms ≡ operators e
 unfolding operators
@@ -28,12 +28,12 @@ arranged-join m k l r ls rs e =
 
 -- the entries outside the nodes e slots up to i do not matter
 pub marked-kept : {bs bs′ : List ℕ} {i : ℕ} {e : Expr} {ms : List Bool} → Marked bs i e ms → nodes e ≤ i + 1
-    → Agrees bs bs′ i (nodes e) → Marked bs′ i e ms
+    → ((j : ℕ) → i < j + nodes e → j ≤ i → getD bs′ j 0 ≡ getD bs j 0) → Marked bs′ i e ms
 unfolding nodes
-marked-kept leaf fits a = leaf
-marked-kept (joint {i = i} {k = k} {l = l} {r = r} h x y) fits a =
+marked-kept leaf fits same = leaf
+marked-kept (joint {i = i} {k = k} {l = l} {r = r} h x y) fits same =
     let s = nodes-some l in
     let t = nodes-some r in
-    joint (a .same i (omega arith) (le-refl i) ∙ h)
-    (marked-kept x (omega arith) (agrees-part (i - 1 - nodes r) (nodes l) a (omega arith) (omega arith)))
-    (marked-kept y (omega arith) (agrees-part (i - 1) (nodes r) a (omega arith) (omega arith)))
+    joint (same i (omega arith) (le-refl i) ∙ h)
+    (marked-kept x (omega arith) (λ j p q. same j (omega arith) (omega arith)))
+    (marked-kept y (omega arith) (λ j p q. same j (omega arith) (omega arith)))

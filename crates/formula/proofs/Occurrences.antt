@@ -56,9 +56,6 @@ literals-counting k n e p = sym (length-occurrences e) ∙ ap length p ∙ lengt
 pub literals-positive : (k : ℕ) (e : Typed) → literals (positive k e) ≡ numbers e
 literals-positive k e = literals-counting k _ _ (occurrences-positive k e)
 
-pub literals-negative : (k : ℕ) (e : Typed) → literals (negative k e) ≡ numbers e
-literals-negative k e = literals-counting k _ _ (occurrences-negative k e)
-
 pub times-before : (i k n : ℕ) → i < k → times-of i (counting k n) ≡ 0
 unfolding times-of counting
 times-before i k zero h = refl

@@ -10,13 +10,13 @@ use mathlib.Core.Bool.{Bool, true, false, not, _&&_, _||_}
 use Rattle.terms.specs.Terms.{Primitive}
 
 -- "Each occurrence is a literal of its own." A literal is passed on unread by turning and weaving.
--- The sense is true for a plain literal and false for a complemented one.
+-- The sense is true for a plain literal and false for a complemented one. (scope 2.3)
 pub record Literal : Type 0 where
   pub primitive : Primitive
   pub sense : Bool
   pub occurrence : ℕ
 
--- "Every operator is now a union or an intersection"
+-- "Every operator is now a union or an intersection" (scope 2.4)
 pub data Kind : Type 0 where
   union intersection : Kind
 

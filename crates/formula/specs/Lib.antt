@@ -1,6 +1,5 @@
 pub mod Formula
 pub mod Typed
 pub mod Marks
-pub mod Held
-pub mod Marked
 pub mod Occurrences
+pub mod code

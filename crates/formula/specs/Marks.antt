@@ -1,4 +1,4 @@
--- A row of marks over an expression as typed, and the arrangement that it makes.
+-- A row of marks over an expression as typed, and the arrangement that it makes (scope 3.5).
 --   a row of marks == one mark an operator: an operator before its operands, left as typed before right;
 --                     nought (false) leaves the children as typed, one (true) exchanges them
 --   arranged ms e  == e with the children of each operator as its mark says

@@ -1,4 +1,4 @@
--- Which occurrences an expression's literals are, from left to right, and how often a number stands in a list.
+-- Which occurrences an expression's literals are, from left to right, and how often a number stands in a list (scope 2.3).
 --   occurrences e == the occurrence of each literal of e, from left to right
 --   counting k n  == the n numbers from k on, in order
 --   times-of i is == how often i stands in the list

@@ -7,7 +7,7 @@
 use Prim.Native.Nat.{ℕ, _+_}
 use mathlib.Core.Bool.{Bool, true, false, not, _&&_, _||_}
 use Rattle.terms.specs.Terms.{Primitive}
-use Rattle.formula.specs.Formula.{Literal, Kind, union, intersection, Expr, literal, join}
+use Rattle.formula.specs.Formula.{union, intersection, Expr, literal, join}
 
 pub data Typed : Type 0 where
   number : Primitive → Typed
@@ -21,7 +21,7 @@ numbers (plus a b) = numbers a + numbers b
 numbers (times a b) = numbers a + numbers b
 numbers (minus a b) = numbers a + numbers b
 
--- "`+` (union), `*` (intersection), `-` (difference), `!` (complement)"; occurrences are counted as typed, from k on
+-- "`+` (union), `*` (intersection), `-` (difference), `!` (complement)"; occurrences are counted as typed, from k on (scope 2.1)
 unfoldable pub typed-value : (ℕ → Bool) → ℕ → Typed → Bool
 typed-value truth k (number p) = truth k
 typed-value truth k (complement a) = not (typed-value truth k a)
@@ -34,7 +34,7 @@ abbrev pub occurs : Primitive → Bool → ℕ → Expr
 occurs p sense k = literal (record { primitive = p; sense = sense; occurrence = k })
 
 -- "a-b is a·!b; then !(a+b) is !a·!b, !(a·b) is !a+!b, and !!a is a, until complements stand on numbers only.
--- Left and right keep their sides."
+-- Left and right keep their sides." (scope 2.4)
 unfoldable mutual
   pub positive : ℕ → Typed → Expr
   positive k (number p) = occurs p true k

@@ -7,7 +7,7 @@ ghost use mathlib.Core.Bool.{true, false};
 ghost use Prim.Native.Nat.{ℕ, _+_, _-_, _*_, _≤_, _<_};
 ghost use lib.ListN.{length, getD, set};
 ghost use Rattle.terms.specs.Terms.{greatest-primitive};
-ghost use Rattle.formula.specs.Held.{kind-of, node-at, is-leaf, literal-number, join-number};
+ghost use Rattle.formula.specs.code.Held.{node-kind, node-at, is-leaf, literal-number, join-number};
 
 // What a node is.
 pub enum Kind {
@@ -24,8 +24,8 @@ pub struct Node {
 }
 
 // The kind that a number stands for: union, intersection, or one of the two senses of a primitive.
-pub fn kind_of(number: u16) -> Kind
-    ensures { λ r. ⌜ r ≡ kind-of number ⌝ }
+pub fn node_kind(number: u16) -> Kind
+    ensures { λ r. ⌜ r ≡ node-kind number ⌝ }
 {
     if number == 0 {
         return Kind::Union;
@@ -89,7 +89,7 @@ pub fn node_at(kinds: &[u16], spans: &[u16], i: usize) -> Node
     requires { ⌜ i < length (now spans) ⌝ }
     ensures { λ r. ⌜ r ≡ node-at (now (kinds .entry)) (now (spans .entry)) i ⌝ }
 {
-    let kind = kind_of(kinds[i]);
+    let kind = node_kind(kinds[i]);
     let right = less(i, 1);
     let left = less(right, wide(spans[right]));
     Node { kind, left, right }

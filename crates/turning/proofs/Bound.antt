@@ -68,10 +68,6 @@ greatest-priced k l r p q h =
     (max-le (le-trans (counted-le (alike k l) (l .c2)) (omega arith)) (le-trans (counted-le (alike k r) (r .c2)) (omega arith))))
     (le-trans (kept-le (alike k r) (r .c3) (r .c2 + 1)) (omega arith)))
 
--- so in either order it is at most one more than the children's
-pub greatest-priced-more : (k : Kind) (l r : Tag) → greatest (priced k l r) ≤ max (greatest l) (greatest r) + 1
-greatest-priced-more k l r = greatest-priced k l r (omega arith) (omega arith) (omega arith)
-
 module _ (k : Kind) (l r : Tag) (n m : ℕ) (bl : Bounded n l) (br : Bounded m r) (pl : 1 ≤ n) (pr : 1 ≤ m)
     (least : greatest (priced k l r) ≤ greatest (priced k r l)) where
   -- one more than a cost of the right child's, where the operator has a cost as high

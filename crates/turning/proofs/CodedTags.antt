@@ -13,7 +13,7 @@ use borrow.Author.Tests.{lt-ltb, le-ltb, eq-eqb, ne-eqb}
 use Rattle.formula.specs.Formula.{Kind, union, intersection, Expr, literal, join, literals}
 use Rattle.formula.proofs.Marks.{literals-some}
 use Rattle.turning.specs.Tags.{Tag, mark-of, alike, priced, price, inserted, row, smaller}
-use Rattle.turning.specs.Coded.{joining, Small}
+use Rattle.turning.specs.code.Coded.{joining, Small}
 
 -- the tag of an operator, cost by cost
 pub priced-joining : (m : Bool) (l r : Tag) {la ra : Bool} {f c1 own x y z c2 h c3 : ℕ}

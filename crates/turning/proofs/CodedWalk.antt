@@ -1,19 +1,19 @@
 -- Where both children have been turned, their marks stand and their tags have room, settling the operator and putting its mark
 -- into its own slot turns it; and the price by marks goes the same way. Assumes nothing.
-use Prim.Native.Nat.{ℕ, _+_, _-_, _*_, _≤_, _<_}
+use Prim.Native.Nat.{ℕ, _-_, _*_, _≤_, _<_}
 use mathlib.Core.Path.{_≡_, refl, sym, ap, ap₂, _∙_}
 use mathlib.Core.Bool.{Bool, true, false, cond, true≢false}
 use mathlib.Core.List.{List, _∷_, _++_}
 use native.Mathlib.Omega.{arith}
 use lib.Dec.{eqb}
-use lib.ListN.{length, getD, set, length-set}
+use lib.ListN.{length, getD, set}
 use lib.Seq.{getD-set-same, getD-set-other}
 use Rattle.terms.specs.Terms.{most-literals}
 use Rattle.formula.specs.Formula.{Literal, Kind, union, intersection, Expr, literal, join}
 use Rattle.formula.specs.Marks.{placed, arranged}
-use Rattle.formula.specs.Held.{nodes, kind-of, is-leaf, operator-kind, Joint, Holds, leaf, joint}
-use Rattle.formula.specs.Marked as marked
-use Rattle.formula.specs.Marked.{mark-byte, Marked}
+use Rattle.formula.specs.code.Held.{nodes, node-kind, is-leaf, operator-kind, Joint, Holds, leaf, joint}
+use Rattle.formula.specs.code.Marked as marked
+use Rattle.formula.specs.code.Marked.{mark-byte, Marked}
 use Rattle.formula.proofs.Held.{nodes-literals, nodes-some, holds-within, holds-span-within, holds-fits, holds-span}
 use Rattle.formula.proofs.Marked.{marked-length, arranged-join, marked-kept}
 use Rattle.formula.proofs.Marks.{literals-arranged}
@@ -22,7 +22,7 @@ use Rattle.turning.specs.declared.turn.Settled.{Settled}
 use Rattle.turning.specs.Tags as tags
 use Rattle.turning.specs.Tags.{Tag, mark-of, priced, price, row, smaller}
 use Rattle.turning.specs.Turning.{exchanges, marks, turned}
-use Rattle.turning.specs.Coded.{meant, joining, intersecting, Small, SettledAs, Site, TurnedTo, Turned, MarkedSite, PricedBy}
+use Rattle.turning.specs.code.Coded.{meant, joining, intersecting, Small, SettledAs, Site, TurnedTo, Turned, MarkedSite, PricedBy}
 use Rattle.turning.proofs.Turned.{turned-join}
 use Rattle.turning.proofs.CodedTags.{joining-mark, roomy-price, small-roomy}
 
@@ -53,8 +53,8 @@ leaf-operator intersection = refl
 abbrev pub left-of : List ℕ → ℕ → ℕ
 left-of ss i = i - 1 - getD ss (i - 1) 0
 
-pub site-within : (ks ss bs : List ℕ) (i : ℕ) → Site ks ss bs i → (i < length ks) × (i < length ss)
-site-within ks ss bs i s = (holds-within (s .held .holds), holds-span-within (s .held .holds))
+pub site-within : (ks ss : List ℕ) (i : ℕ) → Site ks ss i → (i < length ks) × (i < length ss)
+site-within ks ss i s = (holds-within (s .held .holds), holds-span-within (s .held .holds))
 
 -- the operands of an operator in the slot i, the left one in the slot that its node tells
 pub record Operands (ks ss : List ℕ) (i : ℕ) (k : Kind) (l r : Expr) : Type 0 where
@@ -71,12 +71,12 @@ pub record Below (ks ss : List ℕ) (i x : ℕ) (e : Expr) : Type 0 where
 
 module _ (ks ss : List ℕ) (i : ℕ) where
   -- a slot of a literal's kind holds a literal, and one of an operator's an operator
-  pub at-literal : (P : Expr → Type 0) → is-leaf (kind-of (getD ks i 0)) ≡ true → ((x : Literal) → P (literal x)) → (e : Expr)
+  pub at-literal : (P : Expr → Type 0) → is-leaf (node-kind (getD ks i 0)) ≡ true → ((x : Literal) → P (literal x)) → (e : Expr)
       → Holds ks ss i e → P e
   at-literal P outer f (literal x) (leaf h) = f x
   at-literal P outer f (join k l r) (joint h a b) = absurd (true≢false (sym outer ∙ ap is-leaf (h .kind) ∙ leaf-operator k))
 
-  pub at-operator : (P : Expr → Type 0) → is-leaf (kind-of (getD ks i 0)) ≡ false
+  pub at-operator : (P : Expr → Type 0) → is-leaf (node-kind (getD ks i 0)) ≡ false
       → ((k : Kind) (l r : Expr) → Operands ks ss i k l r → P (join k l r)) → (e : Expr) → Holds ks ss i e → P e
   at-operator P inner f (literal x) (leaf h) = absurd (true≢false (sym (ap is-leaf (h .kind)) ∙ inner))
   at-operator P inner f (join k l r) (joint h a b) =
@@ -95,13 +95,8 @@ module _ (ks ss : List ℕ) (i : ℕ) where
       let q = o .joint .span in
       record { holds = o .right; below = omega arith; smaller = omega arith }
 
-  abbrev pub site-below : (bs bs₁ : List ℕ) → length bs₁ ≡ length bs → Site ks ss bs i → {x : ℕ} {e : Expr} → Below ks ss i x e → Site ks ss bs₁ x
-  site-below bs bs₁ long s {x} {e} b =
-      record {
-        held = record { tree = e; holds = b .holds };
-        within = omega (arith, s .within, b .below);
-        low = omega (arith, s .low, b .below);
-      }
+  abbrev pub site-below : Site ks ss i → {x : ℕ} {e : Expr} → Below ks ss i x e → Site ks ss x
+  site-below s {x} {e} b = record { held = record { tree = e; holds = b .holds }; low = omega (arith, s .low, b .below) }
 
   -- an arrangement of what so many slots hold has costs with room
   small-arranged : (e : Expr) (ms : List Bool) → Holds ks ss i e → i < 2 * most-literals → Small (price (arranged ms e))
@@ -111,7 +106,7 @@ module _ (ks ss : List ℕ) (i : ℕ) where
       let f = holds-fits h in
       small-roomy (price (arranged ms e)) (omega arith) (roomy-price (arranged ms e))
 
-  pub turned-at-literal : (bs : List ℕ) (t : Tag) → is-leaf (kind-of (getD ks i 0)) ≡ true → t ≡ tags.leaf → Turned ks ss bs bs i t
+  pub turned-at-literal : (bs : List ℕ) (t : Tag) → is-leaf (node-kind (getD ks i 0)) ≡ true → t ≡ tags.leaf → Turned ks ss bs bs i t
   unfolding marks turned arranged price
   turned-at-literal bs t outer et =
       record {
@@ -121,29 +116,27 @@ module _ (ks ss : List ℕ) (i : ℕ) where
         literals = λ j h. refl;
       }
 
-  module _ (bs : List ℕ) (s : Site ks ss bs i) (inner : is-leaf (kind-of (getD ks i 0)) ≡ false) where
+  module _ (s : Site ks ss i) (inner : is-leaf (node-kind (getD ks i 0)) ≡ false) where
     -- the sites of the two operands, each smaller than their operator's
-    pub left-site : (x n : ℕ) → getD ss i 0 ≡ n → x ≡ left-of ss i → (getD ss x 0 < n) × Site ks ss bs x
+    pub left-site : (x n : ℕ) → getD ss i 0 ≡ n → x ≡ left-of ss i → (getD ss x 0 < n) × Site ks ss x
     left-site x n en ex =
         rw (← en, ex)
-        (at-operator (λ e. (getD ss (left-of ss i) 0 < getD ss i 0) × Site ks ss bs (left-of ss i)) inner
-        (λ k l r o. let b = left-below o in (b .smaller, site-below bs bs refl s b)) (s .held .tree) (s .held .holds))
+        (at-operator (λ e. (getD ss (left-of ss i) 0 < getD ss i 0) × Site ks ss (left-of ss i)) inner
+        (λ k l r o. let b = left-below o in (b .smaller, site-below s b)) (s .held .tree) (s .held .holds))
 
-    pub right-site : (bs₁ : List ℕ) (x n : ℕ) → getD ss i 0 ≡ n → x ≡ i - 1 → length bs₁ ≡ length bs → (getD ss x 0 < n) × Site ks ss bs₁ x
-    right-site bs₁ x n en ex long =
+    pub right-site : (x n : ℕ) → getD ss i 0 ≡ n → x ≡ i - 1 → (getD ss x 0 < n) × Site ks ss x
+    right-site x n en ex =
         rw (← en, ex)
-        (at-operator (λ e. (getD ss (i - 1) 0 < getD ss i 0) × Site ks ss bs₁ (i - 1)) inner
-        (λ k l r o. let b = right-below o in (b .smaller, site-below bs bs₁ long s b)) (s .held .tree) (s .held .holds))
+        (at-operator (λ e. (getD ss (i - 1) 0 < getD ss i 0) × Site ks ss (i - 1)) inner
+        (λ k l r o. let b = right-below o in (b .smaller, site-below s b)) (s .held .tree) (s .held .holds))
 
 -- what is known where both operands have been turned
 pub record Walked (ks ss bs bs₂ : List ℕ) (i : ℕ) (tl tr : Tag) : Type 0 where
   pub bs₁ : List ℕ
-  pub site : Site ks ss bs i
-  pub inner : is-leaf (kind-of (getD ks i 0)) ≡ false
+  pub site : Site ks ss i
+  pub inner : is-leaf (node-kind (getD ks i 0)) ≡ false
   pub first : Turned ks ss bs bs₁ (left-of ss i) tl
   pub second : Turned ks ss bs₁ bs₂ (i - 1) tr
-  pub long₁ : length bs₁ ≡ length bs
-  pub long₂ : length bs₂ ≡ length bs₁
 
 module _ (ks ss bs bs₂ : List ℕ) (i : ℕ) (tl tr : Tag) (w : Walked ks ss bs bs₂ i tl tr) where
   -- both tags have room, and the operator has a slot for its mark
@@ -158,13 +151,10 @@ module _ (ks ss bs bs₂ : List ℕ) (i : ℕ) (tl tr : Tag) (w : Walked ks ss b
       ))
       (w .site .held .tree) (w .site .held .holds)
 
-  pub walked-within : i < length bs₂
-  walked-within = omega (arith, w .site .within, w .long₁, w .long₂)
-
   -- the marks of both operands stand behind the operator's own
-  settled-marks : (k : Kind) (l r : Expr) (m : Bool) → Operands ks ss i k l r
+  settled-marks : i < length bs₂ → (k : Kind) (l r : Expr) (m : Bool) → Operands ks ss i k l r
       → Marked (set bs₂ i (mark-byte m)) i (join k l r) (m ∷ (marks l ++ marks r))
-  settled-marks k l r m o =
+  settled-marks within k l r m o =
       let f = w .first .each l (o .left) in
       let g = w .second .each r (o .right) in
       let fl = holds-fits (o .left) in
@@ -174,16 +164,15 @@ module _ (ks ss bs bs₂ : List ℕ) (i : ℕ) (tl tr : Tag) (w : Walked ks ss b
       let fits = o .joint .fits in
       let e = o .slot in
       let same : (j : ℕ) → j < i → getD (set bs₂ i (mark-byte m)) j 0 ≡ getD bs₂ j 0 = λ j h. getD-set-other bs₂ i j _ 0 (omega arith) in
-      let long = length-set bs₂ i (mark-byte m) in
-      marked.joint (getD-set-same bs₂ i (mark-byte m) 0 walked-within)
+      marked.joint (getD-set-same bs₂ i (mark-byte m) 0 within)
       (rw e at (marked-kept {bs′ = set bs₂ i (mark-byte m)} (f .marked) fl
-      (record { long = omega (arith, w .long₂); same = λ j p q. same j (omega arith) ∙ g .others .before j (omega arith) })))
-      (marked-kept (g .marked) fr (record { long = omega arith; same = λ j p q. same j (omega arith) }))
+      (λ j p q. same j (omega arith) ∙ g .others .before j (omega arith))))
+      (marked-kept (g .marked) fr (λ j p q. same j (omega arith)))
 
-  pub after-settle : (bs₃ : List ℕ) (m : Bool) (s : Settled) → m ≡ intersecting (kind-of (getD ks i 0)) → SettledAs (joining m) tl tr s
+  pub after-settle : i < length bs₂ → (bs₃ : List ℕ) (m : Bool) (s : Settled) → m ≡ intersecting (node-kind (getD ks i 0)) → SettledAs (joining m) tl tr s
       → bs₃ ≡ set bs₂ i (mark-byte (s .exchanged)) → Turned ks ss bs bs₃ i (meant (s .tag))
   unfolding nodes marks turned
-  after-settle bs₃ m s em d e₃ =
+  after-settle within bs₃ m s em d e₃ =
       record {
         each =
             at-operator ks ss i (TurnedTo bs bs₃ i (meant (s .tag))) (w .inner)
@@ -199,7 +188,7 @@ module _ (ks ss bs bs₂ : List ℕ) (i : ℕ) (tl tr : Tag) (w : Walked ks ss b
             let e = o .slot in
             let same : (j : ℕ) → (j ≡ i → ⊥) → getD bs₃ j 0 ≡ getD bs₂ j 0 = λ j h. rw e₃ (getD-set-other bs₂ i j _ 0 h) in
             record {
-              marked = rw (e₃, a .exchanged) (settled-marks k l r x o);
+              marked = rw (e₃, a .exchanged) (settled-marks within k l r x o);
               tag = a .tag ∙ sym (ap price (turned-join k l r) ∙ price-placed x k (turned l) (turned r));
               others =
                   record {
@@ -231,11 +220,11 @@ byte-mark : (m : Bool) → eqb (mark-byte m) 1 ≡ m
 byte-mark true = refl
 byte-mark false = refl
 
-pub priced-at-literal : (ks ss bs : List ℕ) (i : ℕ) (t : Tag) → is-leaf (kind-of (getD ks i 0)) ≡ true → t ≡ tags.leaf → PricedBy ks ss bs i t
+pub priced-at-literal : (ks ss bs : List ℕ) (i : ℕ) (t : Tag) → is-leaf (node-kind (getD ks i 0)) ≡ true → t ≡ tags.leaf → PricedBy ks ss bs i t
 unfolding arranged price
 priced-at-literal ks ss bs i t outer et = record { each = λ e ms h m. at-literal ks ss i (λ e. t ≡ price (arranged ms e)) outer (λ x. et) e h }
 
-module _ (ks ss bs : List ℕ) (i : ℕ) (s : MarkedSite ks ss bs i) (inner : is-leaf (kind-of (getD ks i 0)) ≡ false) where
+module _ (ks ss bs : List ℕ) (i : ℕ) (s : MarkedSite ks ss bs i) (inner : is-leaf (node-kind (getD ks i 0)) ≡ false) where
   pub left-marked : (x n : ℕ) → getD ss i 0 ≡ n → x ≡ left-of ss i → (getD ss x 0 < n) × MarkedSite ks ss bs x
   left-marked x n en ex =
       rw (← en, ex)
@@ -243,7 +232,7 @@ module _ (ks ss bs : List ℕ) (i : ℕ) (s : MarkedSite ks ss bs i) (inner : is
       (λ k l r o m.
       let p = marked-parts m in
       let b = left-below ks ss i o in
-      (b .smaller, record { site = site-below ks ss i bs bs refl (s .site) b; row = p .lefts; marked = rw (o .slot) (p .left) }))
+      (b .smaller, record { site = site-below ks ss i (s .site) b; row = p .lefts; marked = rw (o .slot) (p .left) }))
       (s .site .held .tree) (s .site .held .holds) (s .marked))
 
   pub right-marked : (x n : ℕ) → getD ss i 0 ≡ n → x ≡ i - 1 → (getD ss x 0 < n) × MarkedSite ks ss bs x
@@ -253,7 +242,7 @@ module _ (ks ss bs : List ℕ) (i : ℕ) (s : MarkedSite ks ss bs i) (inner : is
       (λ k l r o m.
       let p = marked-parts m in
       let b = right-below ks ss i o in
-      (b .smaller, record { site = site-below ks ss i bs bs refl (s .site) b; row = p .rights; marked = p .right }))
+      (b .smaller, record { site = site-below ks ss i (s .site) b; row = p .rights; marked = p .right }))
       (s .site .held .tree) (s .site .held .holds) (s .marked))
 
   module _ (tl tr : Tag) (first : PricedBy ks ss bs (left-of ss i) tl) (second : PricedBy ks ss bs (i - 1) tr) where
@@ -277,7 +266,7 @@ module _ (ks ss bs : List ℕ) (i : ℕ) (s : MarkedSite ks ss bs i) (inner : is
         ))
         (s .site .held .tree) (s .site .held .holds) (s .marked)
 
-    pub after-price : (m : Bool) (t : Tag) → m ≡ intersecting (kind-of (getD ks i 0))
+    pub after-price : (m : Bool) (t : Tag) → m ≡ intersecting (node-kind (getD ks i 0))
         → t ≡ cond (eqb (getD bs i 0) 1) (priced (joining m) tr tl) (priced (joining m) tl tr) → PricedBy ks ss bs i t
     after-price m t em et =
         record {

@@ -111,10 +111,6 @@ greatest-not-smaller s t e =
     [ yes h ↦ absurd (true≢false (sym (smaller-first _ _ (omega (arith, length-row s)) h) ∙ e)) | no h ↦ omega arith ])
 
 module _ (k : Kind) (l r : Tag) where
-  -- "The children stay exchanged only if the exchanged row is strictly smaller."
-  pub tie-stays : row (priced k r l) ≡ row (priced k l r) → exchanges k l r ≡ false
-  tie-stays e = rw e (smaller-irreflexive (row (priced k l r)))
-
   pub greatest-exchanged : exchanges k l r ≡ true → greatest (priced k r l) ≤ greatest (priced k l r)
   greatest-exchanged = greatest-smaller (priced k r l) (priced k l r)
 

@@ -7,8 +7,7 @@ use lib.ListN.{length, length-append}
 use lib.Seq.{take-at, drop-at}
 use Rattle.formula.specs.Formula.{Literal, Kind, Expr, literal, join, literals, operators, value}
 use Rattle.formula.specs.Marks.{placed, arranged}
-use Rattle.formula.specs.Occurrences.{occurrences, times-of}
-use Rattle.formula.proofs.Marks.{literals-arranged, value-arranged, times-arranged}
+use Rattle.formula.proofs.Marks.{literals-arranged, value-arranged}
 use Rattle.turning.specs.Tags.{price}
 use Rattle.turning.specs.Turning.{exchanges, marks, turned}
 
@@ -34,7 +33,3 @@ literals-turned e = literals-arranged (marks e) e
 pub value-turned : (truth : ℕ → Bool) (e : Expr) → value truth (turned e) ≡ value truth e
 unfolding turned
 value-turned truth e = value-arranged truth (marks e) e
-
-pub times-turned : (i : ℕ) (e : Expr) → times-of i (occurrences (turned e)) ≡ times-of i (occurrences e)
-unfolding turned
-times-turned i e = times-arranged i (marks e) e

@@ -11,23 +11,23 @@ use mathlib.Core.List.{List, [], _∷_}
 use lib.Dec.{ltb, eqb}
 use Rattle.formula.specs.Formula.{Kind, union, intersection, Expr, literal, join}
 
--- "Each node carries a price tag: a mark and three costs c1, c2, c3"
+-- "Each node carries a price tag: a mark and three costs c1, c2, c3" (scope 3.1)
 pub record Tag : Type 0 where
   pub mark : Bool
   pub c1 : ℕ
   pub c2 : ℕ
   pub c3 : ℕ
 
--- "A leaf has mark true and costs 1, 0, 2."
+-- "A leaf has mark true and costs 1, 0, 2." (scope 3.1)
 abbrev pub leaf : Tag
 leaf = record { mark = true; c1 = 1; c2 = 0; c3 = 2 }
 
--- "An intersection's mark is true, a union's false."
+-- "An intersection's mark is true, a union's false." (scope 3.1)
 abbrev pub mark-of : Kind → Bool
 mark-of union = false
 mark-of intersection = true
 
--- "Call a child alike if its mark equals its parent's."
+-- "Call a child alike if its mark equals its parent's." (scope 3.2)
 abbrev pub alike : Kind → Tag → Bool
 alike k child = Bool·beq (child .mark) (mark-of k)
 
@@ -37,7 +37,7 @@ counted test c = cond test c 0
 
 -- "c1 is L.c1, and if L is not alike the greater of L.c1 and L.c2.
 -- c2 is the greatest of L.c3, R.c1 + 1, of L.c2 if L is alike, and of R.c2 if R is alike.
--- c3 is R.c3, and if R is not alike the greater of R.c3 and R.c2 + 1."
+-- c3 is R.c3, and if R is not alike the greater of R.c3 and R.c2 + 1." (scope 3.2)
 abbrev pub priced : Kind → Tag → Tag → Tag
 priced k l r =
     record {
@@ -56,11 +56,11 @@ unfoldable pub inserted : ℕ → List ℕ → List ℕ
 inserted c [] = c ∷ []
 inserted c (d ∷ row) = cond (ltb c d) (d ∷ inserted c row) (c ∷ d ∷ row)
 
--- "The three costs are put in order, largest first"
+-- "The three costs are put in order, largest first" (scope 3.4)
 unfoldable pub row : Tag → List ℕ
 row t = inserted (t .c1) (inserted (t .c2) (inserted (t .c3) []))
 
--- "and two such rows are compared place by place": the first place where they differ decides
+-- "and two such rows are compared place by place": the first place where they differ decides (scope 3.4)
 unfoldable pub smaller : List ℕ → List ℕ → Bool
 smaller [] t = false
 smaller (c ∷ s) [] = false

@@ -10,11 +10,11 @@ use Rattle.formula.specs.Marks.{arranged}
 use Rattle.turning.specs.Tags.{Tag, priced, price, row, smaller}
 
 -- "The parent is priced as it stands and with its children exchanged. .. The children stay exchanged only if the exchanged
--- row is strictly smaller."
+-- row is strictly smaller." (scope 3.5)
 abbrev pub exchanges : Kind → Tag → Tag → Bool
 exchanges k l r = smaller (row (priced k r l)) (row (priced k l r))
 
--- "Children are settled before their parent."
+-- "Children are settled before their parent." (scope 3.5)
 unfoldable pub marks : Expr → List Bool
 marks (literal x) = []
 marks (join k l r) = exchanges k (price (arranged (marks l) l)) (price (arranged (marks r) r)) ∷ (marks l ++ marks r)

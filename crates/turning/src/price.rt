@@ -4,7 +4,7 @@ ghost use mathlib.Core.Bool.{Bool, cond, _&&_, _||_, Bool·beq};
 ghost use Prim.Native.Nat.{_+_, _<_, max, min};
 ghost use lib.Dec.{ltb, eqb};
 ghost use Rattle.turning.specs.Tags.{leaf, priced, row, smaller, greatest};
-ghost use Rattle.turning.specs.Coded.{with-costs, meant, joining, Small};
+ghost use Rattle.turning.specs.code.Coded.{with-costs, meant, joining, Small};
 
 // A mark and three costs.
 pub struct Tag {

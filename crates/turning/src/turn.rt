@@ -8,9 +8,9 @@ ghost use mathlib.Core.Bool.{cond};
 ghost use Prim.Native.Nat.{_<_};
 ghost use lib.Dec.{eqb};
 ghost use lib.ListN.{length, set};
-ghost use Rattle.formula.specs.Marked.{mark-byte};
+ghost use Rattle.formula.specs.code.Marked.{mark-byte};
 ghost use Rattle.turning.specs.Tags.{priced};
-ghost use Rattle.turning.specs.Coded.{meant, joining, intersecting, Small, SettledAs, Site, Turned, MarkedSite, PricedBy};
+ghost use Rattle.turning.specs.code.Coded.{meant, joining, intersecting, Small, SettledAs, Site, Turned, MarkedSite, PricedBy};
 
 // The tag that is kept, and whether it is that of the exchanged order.
 pub struct Settled {
@@ -69,8 +69,8 @@ fn mark_byte(exchanged: bool) -> u8
 }
 
 // Turns the expression held up to the slot i: settles both children and then the operator, and puts its mark beside it.
-pub fn turn(kinds: &[u16], spans: &[u16], marks: &mut [u8], i: usize) -> Tag
-    requires { ⌜ Site (now kinds) (now spans) (now marks) i ⌝ }
+pub fn turn(kinds: &[u16; 2047], spans: &[u16; 2047], marks: &mut [u8; 2047], i: usize) -> Tag
+    requires { ⌜ Site (now kinds) (now spans) i ⌝ }
     ensures { λ t. ⌜ Turned (now (kinds .entry)) (now (spans .entry)) (now (marks .entry)) (now (marks .exit)) i (meant t) ⌝ }
 {
     let node = formula::node_at(kinds, spans, i);
@@ -100,7 +100,7 @@ fn price_placed(mark: u8, intersection: bool, l: Tag, r: Tag) -> Tag
 }
 
 // The tag of the expression held up to the slot i, arranged by the marks beside it.
-pub fn price_by(kinds: &[u16], spans: &[u16], marks: &[u8], i: usize) -> Tag
+pub fn price_by(kinds: &[u16; 2047], spans: &[u16; 2047], marks: &[u8; 2047], i: usize) -> Tag
     requires { ⌜ MarkedSite (now kinds) (now spans) (now marks) i ⌝ }
     ensures { λ t. ⌜ PricedBy (now (kinds .entry)) (now (spans .entry)) (now (marks .entry)) i (meant t) ⌝ }
 {

@@ -1,22 +1,21 @@
 -- `node_at` reads the slot and counts back to the operands as `node-at` does. Assumes nothing.
-use native.Mathlib.Omega.{arith}
 use borrow.Author.Needs.{needs}
 use Rattle.formula.proofs.node_at.Statement.{statement}
 use Rattle.formula.proofs.node_at.Tie as tie
 use Rattle.formula.proofs.node_at.Reads as reads
 use Rattle.formula.proofs.node_at.Lts as lts
-use Rattle.formula.proofs.kind_of.Reads as kind-of-reads
+use Rattle.formula.proofs.node_kind.Reads as node-kind-reads
 use Rattle.formula.proofs.less.Reads as less-reads
 use Rattle.formula.proofs.wide.Reads as wide-reads
 
-mul-kind-of : tie.Need-mul-kind-of
-mul-kind-of c = search needs
+mul-node-kind : tie.Need-mul-node-kind
+mul-node-kind c = search needs
 
-shared-slice-read-kind-of : tie.Need-shared-slice-read-kind-of
-shared-slice-read-kind-of c = search needs
+shared-slice-read-node-kind : tie.Need-shared-slice-read-node-kind
+shared-slice-read-node-kind c = search needs
 
-kind-of-requires : tie.Need-kind-of-requires
-kind-of-requires c κs = search needs
+node-kind-requires : tie.Need-node-kind-requires
+node-kind-requires c κs = search needs
 
 less-requires : tie.Need-less-requires
 less-requires c κs = search needs
@@ -40,9 +39,9 @@ pub node-at-spec : {M : Type 1} → statement M
 node-at-spec =
     tie.close
     (tie.spec
-    mul-kind-of
-    shared-slice-read-kind-of
-    kind-of-requires
+    mul-node-kind
+    shared-slice-read-node-kind
+    node-kind-requires
     less-requires
     mul-wide
     shared-slice-read-wide

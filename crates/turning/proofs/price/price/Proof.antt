@@ -1,5 +1,5 @@
 -- The three costs are computed as `priced` says, each place by the same test and the same maximum. Assumes nothing.
-use Rattle.turning.specs.Coded.{meant}
+use Rattle.turning.specs.code.Coded.{meant}
 use Rattle.turning.proofs.CodedTags.{priced-joining}
 use borrow.Author.Needs.{needs}
 use Rattle.turning.proofs.price.price.Statement.{statement}
@@ -76,17 +76,22 @@ either-requires-4 c κs = search needs
 
 returns : tie.Need-returns
 returns c =
-    let a = c .before .before .before .before .before .before .before .before in
+    let at-greater3 = c .before .before .before in
+    let at-either3 = at-greater3 .before in
+    let at-either2 = at-either3 .before in
+    let at-greater2 = at-either2 .before in
+    let at-before = at-greater2 .before in
+    let a = at-before .before in
     let s = a .before .before .before .before .before .args in
     priced-joining (s .intersection) (meant (s .l)) (meant (s .r))
     (a .before .before .alike .ensures)
     (a .before .alike2 .ensures)
     (a .greater .ensures)
-    (c .before .before .before .before .before .before .before .either .ensures)
-    (c .before .before .before .before .before .before .greater2 .ensures)
-    (c .before .before .before .before .before .either2 .ensures)
-    (c .before .before .before .before .either3 .ensures)
-    (c .before .before .before .greater3 .ensures)
+    (at-before .either .ensures)
+    (at-greater2 .greater2 .ensures)
+    (at-either2 .either2 .ensures)
+    (at-either3 .either3 .ensures)
+    (at-greater3 .greater3 .ensures)
     (c .before .before .greater4 .ensures)
     (c .before .greater5 .ensures)
     (c .either4 .ensures)

@@ -1,5 +1,5 @@
 -- The greatest, the middle and the least of three costs are the row that insertion makes of them. Assumes nothing.
-use Rattle.turning.specs.Coded.{with-costs}
+use Rattle.turning.specs.code.Coded.{with-costs}
 use Rattle.turning.proofs.CodedTags.{row-three}
 use borrow.Author.Needs.{needs}
 use Rattle.turning.proofs.price.row.Statement.{statement}
@@ -39,8 +39,10 @@ lesser-requires-3 : tie.Need-lesser-requires-3
 lesser-requires-3 c κs = search needs
 
 returns : tie.Need-returns
-returns c = λ m.
-    cc (row-three (with-costs m (c .before .before .before .before .before .before .args .t1)))
+returns c =
+    let at-args = c .before .before .before .before .before .before in
+    λ m.
+    cc (row-three (with-costs m (at-args .args .t1)))
 
 pub row-spec : {M : Type 1} → statement M
 row-spec =

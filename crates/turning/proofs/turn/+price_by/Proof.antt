@@ -3,12 +3,13 @@
 use Prim.Native.Nat.{ℕ, _<_, _-_}
 use mathlib.Core.Path.{_≡_, sym, ap, _∙_}
 use mathlib.Core.Bool.{false}
+use native.Mathlib.Omega.{arith}
 use lib.ListN.{getD}
 use borrow.Fn.Kinds.{In}
 use borrow.Fn.PlainCycle.{Measures, is, falls, and}
 use Rattle.formula.specs.declared.Node.{Node}
-use Rattle.formula.specs.Held.{kind-of, is-leaf}
-use Rattle.turning.specs.Coded.{intersecting}
+use Rattle.formula.specs.code.Held.{node-kind, is-leaf}
+use Rattle.turning.specs.code.Coded.{intersecting}
 use Rattle.turning.proofs.CodedWalk.{left-of, site-within, priced-at-literal, left-marked, right-marked, before-price, after-price}
 use Rattle.turning.proofs.turn.price_by.Reads as price-by
 use Rattle.turning.proofs.turn.price_by.Kinds as price-by-kinds
@@ -49,7 +50,7 @@ calls t = (
 
 module _ (t : ℕ) where
   node-at-requires : lts.Need-node-at-requires (calls t) (price-by-at t) price-by.Post
-  node-at-requires c κs = site-within _ _ _ _ (c .before .before .before .pre .1 .site)
+  node-at-requires c κs = site-within _ _ _ (c .before .before .pre .1 .site)
 
   is-literal-requires : lts.Need-is-literal-requires (calls t) (price-by-at t) price-by.Post
   is-literal-requires c κs = tt
@@ -59,11 +60,11 @@ module _ (t : ℕ) where
 
   -- the kind that is tested is that of the slot
   tested : (c : lts.After-is-literal (calls t) (price-by-at t) price-by.Post) →
-      let s = c .before .before .before .before .before .args in c .is-literal .result ≡ is-leaf (kind-of (getD (s .kinds .now) (s .i) 0))
+      let s = c .before .before .before .before .args in c .is-literal .result ≡ is-leaf (node-kind (getD (s .kinds .now) (s .i) 0))
   tested c = c .is-literal .ensures ∙ ap (λ (n : Node). is-leaf (n .kind)) (c .before .node-at .ensures)
 
   inner : (c : lts.Else1 (calls t) (price-by-at t) price-by.Post) →
-      let s = c .before .before .before .before .before .before .args in is-leaf (kind-of (getD (s .kinds .now) (s .i) 0)) ≡ false
+      let s = c .before .before .before .before .before .args in is-leaf (node-kind (getD (s .kinds .now) (s .i) 0)) ≡ false
   inner c = sym (tested (c .before)) ∙ c .if1 .left
 
   returns : lts.Need-returns (calls t) (price-by-at t) price-by.Post
@@ -71,25 +72,25 @@ module _ (t : ℕ) where
 
   -- where the two operands stand
   left-at : (c : lts.After-node-at (calls t) (price-by-at t) price-by.Post) →
-      let s = c .before .before .before .before .args in c .node-at .result .left ≡ left-of (s .spans .now) (s .i)
+      let s = c .before .before .before .args in c .node-at .result .left ≡ left-of (s .spans .now) (s .i)
   left-at c = ap (λ (n : Node). n .left) (c .node-at .ensures)
 
   right-at : (c : lts.After-node-at (calls t) (price-by-at t) price-by.Post) →
-      let s = c .before .before .before .before .args in c .node-at .result .right ≡ s .i - 1
+      let s = c .before .before .before .args in c .node-at .result .right ≡ s .i - 1
   right-at c = ap (λ (n : Node). n .right) (c .node-at .ensures)
 
   price-by-requires : lts.Need-price-by-requires (calls t) (price-by-at t) price-by.Post
   price-by-requires c κs =
-      let p = c .before .before .before .before .before .before .pre in
+      let p = c .before .before .before .before .before .pre in
       left-marked _ _ _ _ (p .1) (inner c) _ t (p .0) (left-at (c .before .before))
 
   price-by-requires-2 : lts.Need-price-by-requires-2 (calls t) (price-by-at t) price-by.Post
   price-by-requires-2 c κs =
-      let p = c .before .before .before .before .before .before .before .pre in
+      let p = c .before .before .before .before .before .before .pre in
       right-marked _ _ _ _ (p .1) (inner (c .before)) _ t (p .0) (right-at (c .before .before .before))
 
-  shared-slice-read-price-placed : lts.Need-shared-slice-read-price-placed (calls t) (price-by-at t) price-by.Post
-  shared-slice-read-price-placed c = c .before .before .before .before .before .before .before .before .before .pre .1 .site .within
+  element-copy-out-price-placed : lts.Need-element-copy-out-price-placed (calls t) (price-by-at t) price-by.Post
+  element-copy-out-price-placed c = omega (arith, c .before .before .before .before .before .before .before .pre .1 .site .low)
 
   is-intersection-requires : lts.Need-is-intersection-requires (calls t) (price-by-at t) price-by.Post
   is-intersection-requires c κs = tt
@@ -99,7 +100,7 @@ module _ (t : ℕ) where
       let b = c .before .before in
       let e = b .before .before in
       let n = e .before .before in
-      before-price _ _ _ _ (n .before .before .before .before .pre .1) (inner e) _ _
+      before-price _ _ _ _ (n .before .before .before .pre .1) (inner e) _ _
       (rw (left-at n) at (b .before .price-by .ensures))
       (rw (right-at n) at (b .price-by2 .ensures))
 
@@ -108,7 +109,7 @@ module _ (t : ℕ) where
       let b = c .before .before .before in
       let e = b .before .before in
       let n = e .before .before in
-      after-price _ _ _ _ (n .before .before .before .before .pre .1) (inner e) _ _
+      after-price _ _ _ _ (n .before .before .before .pre .1) (inner e) _ _
       (rw (left-at n) at (b .before .price-by .ensures))
       (rw (right-at n) at (b .price-by2 .ensures))
       _ _
@@ -125,7 +126,7 @@ pub +price-by-spec : {M : Type 1} → statement M
     (returns t)
     (price-by-requires t)
     (price-by-requires-2 t)
-    (shared-slice-read-price-placed t)
+    (element-copy-out-price-placed t)
     (is-intersection-requires t)
     (price-placed-requires t)
     (returns-2 t)

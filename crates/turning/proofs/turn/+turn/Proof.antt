@@ -3,13 +3,14 @@
 use Prim.Native.Nat.{ℕ, _<_, _-_}
 use mathlib.Core.Path.{_≡_, sym, ap, _∙_}
 use mathlib.Core.Bool.{false}
+use native.Mathlib.Omega.{arith}
 use lib.ListN.{getD}
 use borrow.Fn.Kinds.{In}
 use borrow.Fn.PlainCycle.{Measures, is, falls, and}
 use Rattle.formula.specs.declared.Node.{Node}
-use Rattle.formula.specs.Held.{kind-of, is-leaf}
-use Rattle.turning.specs.Coded.{meant, intersecting}
-use Rattle.turning.proofs.CodedWalk.{left-of, site-within, turned-at-literal, left-site, right-site, Walked, before-settle, walked-within, after-settle}
+use Rattle.formula.specs.code.Held.{node-kind, is-leaf}
+use Rattle.turning.specs.code.Coded.{meant, intersecting}
+use Rattle.turning.proofs.CodedWalk.{left-of, site-within, turned-at-literal, left-site, right-site, Walked, before-settle, after-settle}
 use Rattle.turning.proofs.turn.turn.Reads as turn
 use Rattle.turning.proofs.turn.turn.Kinds as turn-kinds
 use Rattle.turning.proofs.turn.+turn.Lts-turn as lts
@@ -52,7 +53,7 @@ calls t = (
 
 module _ (t : ℕ) where
   node-at-requires : lts.Need-node-at-requires (calls t) (turn-at t) turn.Post
-  node-at-requires c κs = site-within _ _ _ _ (c .before .before .before .pre .1)
+  node-at-requires c κs = site-within _ _ _ (c .before .before .pre .1)
 
   is-literal-requires : lts.Need-is-literal-requires (calls t) (turn-at t) turn.Post
   is-literal-requires c κs = tt
@@ -62,11 +63,11 @@ module _ (t : ℕ) where
 
   -- the kind that is tested is that of the slot
   tested : (c : lts.After-is-literal (calls t) (turn-at t) turn.Post) →
-      let s = c .before .before .before .before .before .args in c .is-literal .result ≡ is-leaf (kind-of (getD (s .kinds .now) (s .i) 0))
+      let s = c .before .before .before .before .args in c .is-literal .result ≡ is-leaf (node-kind (getD (s .kinds .now) (s .i) 0))
   tested c = c .is-literal .ensures ∙ ap (λ (n : Node). is-leaf (n .kind)) (c .before .node-at .ensures)
 
   inner : (c : lts.Else1 (calls t) (turn-at t) turn.Post) →
-      let s = c .before .before .before .before .before .before .args in is-leaf (kind-of (getD (s .kinds .now) (s .i) 0)) ≡ false
+      let s = c .before .before .before .before .before .args in is-leaf (node-kind (getD (s .kinds .now) (s .i) 0)) ≡ false
   inner c = sym (tested (c .before)) ∙ c .if1 .left
 
   returns : lts.Need-returns (calls t) (turn-at t) turn.Post
@@ -74,67 +75,58 @@ module _ (t : ℕ) where
 
   -- where the two operands stand
   left-at : (c : lts.After-node-at (calls t) (turn-at t) turn.Post) →
-      let s = c .before .before .before .before .args in c .node-at .result .left ≡ left-of (s .spans .now) (s .i)
+      let s = c .before .before .before .args in c .node-at .result .left ≡ left-of (s .spans .now) (s .i)
   left-at c = ap (λ (n : Node). n .left) (c .node-at .ensures)
 
   right-at : (c : lts.After-node-at (calls t) (turn-at t) turn.Post) →
-      let s = c .before .before .before .before .args in c .node-at .result .right ≡ s .i - 1
+      let s = c .before .before .before .args in c .node-at .result .right ≡ s .i - 1
   right-at c = ap (λ (n : Node). n .right) (c .node-at .ensures)
 
   turn-requires : lts.Need-turn-requires (calls t) (turn-at t) turn.Post
   turn-requires c κs =
       let n = c .before .before .before in
-      let p = n .before .before .before .before .pre in
-      left-site _ _ _ _ (p .1) (inner (c .before)) _ t (p .0) (left-at n)
+      let p = n .before .before .before .pre in
+      left-site _ _ _ (p .1) (inner (c .before)) _ t (p .0) (left-at n)
 
   turn-requires-2 : lts.Need-turn-requires-2 (calls t) (turn-at t) turn.Post
   turn-requires-2 c κs =
-      let f = c .before .before .before in
-      let e = f .before .before in
+      let e = c .before .before .before in
       let n = e .before .before in
-      let p = n .before .before .before .before .pre in
-      right-site _ _ _ _ (p .1) (inner e) _ _ t (p .0) (right-at n) (f .turn .kept .1 .1 .0)
+      let p = n .before .before .before .pre in
+      right-site _ _ _ (p .1) (inner e) _ t (p .0) (right-at n)
 
   is-intersection-requires : lts.Need-is-intersection-requires (calls t) (turn-at t) turn.Post
   is-intersection-requires c κs = tt
 
   walked : (c : lts.After-turn2 (calls t) (turn-at t) turn.Post) →
-      let f = c .before .before .before .before in
-      let s = f .before .before .before .before .before .before .before .before .args in
+      let f = c .before .before in
+      let s = f .before .before .before .before .before .before .before .args in
       Walked (s .kinds .now) (s .spans .now) (s .marks .now) (c .turn2 .last .1 .1 .0) (s .i) (meant (f .turn .result)) (meant (c .turn2 .result))
   walked c =
-      let f = c .before .before .before .before in
+      let f = c .before .before in
       let e = f .before .before in
       let n = e .before .before in
       record {
         bs₁ = f .turn .last .1 .1 .0;
-        site = n .before .before .before .before .pre .1;
+        site = n .before .before .before .pre .1;
         inner = inner e;
         first = rw (left-at n) at (f .turn .ensures);
         second = rw (right-at n) at (c .turn2 .ensures);
-        long₁ = f .turn .kept .1 .1 .0;
-        long₂ = c .turn2 .kept .1 .1 .0;
       }
 
   settle-requires : lts.Need-settle-requires (calls t) (turn-at t) turn.Post
-  settle-requires c κs = before-settle _ _ _ _ _ _ _ (walked (c .before .before .before))
+  settle-requires c κs = before-settle _ _ _ _ _ _ _ (walked (c .before))
 
   put-mark-requires : lts.Need-put-mark-requires (calls t) (turn-at t) turn.Post
-  put-mark-requires c κs = walked-within _ _ _ _ _ _ _ (walked (c .before .before .before .before .before))
-
-  same-length : lts.Need-same-length (calls t) (turn-at t) turn.Post
-  same-length c =
-      let m = c .before .before .before in
-      let w = walked (m .before .before .before .before .before .before) in
-      m .put-mark .kept .0 ∙ w .long₂ ∙ w .long₁
+  put-mark-requires c κs = omega (arith, c .before .before .before .before .before .before .before .before .before .before .before .before .pre .1 .low, c .put-mark-arg .given .0)
 
   returns-2 : lts.Need-returns-2 (calls t) (turn-at t) turn.Post
   returns-2 c =
-      let m = c .before .before .before in
+      let m = c .before in
       let a = m .before .before in
-      let w = a .before .before .before .before in
-      let n = w .before .before .before .before .before .before .before .before in
-      after-settle _ _ _ _ _ _ _ (walked w) _ _ _
+      let w = a .before .before in
+      let n = w .before .before .before .before .before .before in
+      after-settle _ _ _ _ _ _ _ (walked w) (omega (arith, n .before .before .before .pre .1 .low, m .before .put-mark-arg .given .0)) _ _ _
       (a .before .is-intersection .ensures ∙ ap (λ (x : Node). intersecting (x .kind)) (n .node-at .ensures))
       (a .settle .ensures)
       (m .put-mark .ensures)
@@ -152,5 +144,4 @@ pub +turn-spec : {M : Type 1} → statement M
     (is-intersection-requires t)
     (settle-requires t)
     (put-mark-requires t)
-    (same-length t)
     (returns-2 t)

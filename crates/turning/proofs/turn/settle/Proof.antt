@@ -1,7 +1,7 @@
 -- The exchanged tag is returned exactly where its row is the smaller one, and else the tag as typed. Assumes nothing.
 use mathlib.Core.Path.{sym, _∙_}
 use mathlib.Core.Bool.{true, false}
-use Rattle.turning.specs.Coded.{meant, joining}
+use Rattle.turning.specs.code.Coded.{meant, joining}
 use Rattle.turning.proofs.CodedWalk.{settles}
 use borrow.Author.Needs.{needs}
 use Rattle.turning.proofs.turn.settle.Statement.{statement}

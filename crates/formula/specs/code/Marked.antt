@@ -8,7 +8,7 @@ use mathlib.Core.List.{List, [], _∷_, _++_}
 use lib.ListN.{getD}
 use Rattle.formula.specs.Formula as formula
 use Rattle.formula.specs.Formula.{Kind, Expr, literal, join}
-use Rattle.formula.specs.Held.{nodes}
+use Rattle.formula.specs.code.Held.{nodes}
 
 -- a mark as a byte
 abbrev pub mark-byte : Bool → ℕ

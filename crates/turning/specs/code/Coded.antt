@@ -5,7 +5,7 @@
 --   intersecting kind   == whether a node in the slots is an intersection
 --   Small t             == each cost of t leaves room for one more in the code's numbers
 --   SettledAs k l r s   == s is the tag that an operator keeps of its two orders, and whether it is the exchanged one
---   Site ks ss bs i     == an expression stands up to the slot i of the tree, and bs has a slot for each of its marks
+--   Site ks ss i        == an expression stands up to the slot i of the tree, which is one of its slots
 --   Turned .. i t       == whatever expression stands there, its marks have been put beside it and t is its tag, turned
 --   MarkedSite ..       == a site where the marks are noughts and ones
 --   PricedBy .. i t     == whatever expression and marks stand there, t is the tag of the one arranged by the other
@@ -14,12 +14,12 @@ use Prim.Native.Nat.{ℕ, _+_, _*_, _≤_, _<_}
 use mathlib.Core.Path.{_≡_}
 use mathlib.Core.Bool.{Bool, true, false, cond}
 use mathlib.Core.List.{List}
-use lib.ListN.{length, getD}
+use lib.ListN.{getD}
 use Rattle.terms.specs.Terms.{most-literals}
 use Rattle.formula.specs.Formula.{Kind, union, intersection, Expr}
 use Rattle.formula.specs.Marks.{arranged}
-use Rattle.formula.specs.Held.{nodes, kind-of, is-leaf, Holds, Held}
-use Rattle.formula.specs.Marked.{Marked}
+use Rattle.formula.specs.code.Held.{nodes, node-kind, is-leaf, Holds, SomeHeld}
+use Rattle.formula.specs.code.Marked.{Marked}
 use Rattle.formula.specs.declared.Kind as node
 use Rattle.formula.specs.declared.Kind.the-variants.{Union, Intersection, Literal}
 use Rattle.turning.specs.declared.price.Tag as coded
@@ -52,11 +52,10 @@ pub record SettledAs (k : Kind) (l r : Tag) (s : settled.Settled) : Type 0 where
   pub exchanged : s .exchanged ≡ exchanges k l r
   pub tag : meant (s .tag) ≡ cond (exchanges k l r) (priced k r l) (priced k l r)
 
--- an expression of so many literals at most, and a slot for each mark
-pub record Site (ks ss bs : List ℕ) (i : ℕ) : Type 0 where
-  pub held : Held ks ss i
-  pub within : i < length bs
-  pub low : i < 2 * most-literals
+-- an expression of so many literals at most
+pub record Site (ks ss : List ℕ) (i : ℕ) : Type 0 where
+  pub held : SomeHeld ks ss i
+  pub low : i + 1 < 2 * most-literals
 
 -- the two lists agree but at the n slots up to i
 pub record Outside (xs ys : List ℕ) (i n : ℕ) : Type 0 where
@@ -71,11 +70,11 @@ pub record TurnedTo (bs bs′ : List ℕ) (i : ℕ) (t : Tag) (e : Expr) : Type 
 -- and the slots of literals are as they were
 pub record Turned (ks ss bs bs′ : List ℕ) (i : ℕ) (t : Tag) : Type 0 where
   pub each : (e : Expr) → Holds ks ss i e → TurnedTo bs bs′ i t e
-  pub literals : (j : ℕ) → is-leaf (kind-of (getD ks j 0)) ≡ true → getD bs′ j 0 ≡ getD bs j 0
+  pub literals : (j : ℕ) → is-leaf (node-kind (getD ks j 0)) ≡ true → getD bs′ j 0 ≡ getD bs j 0
 
 -- a site whose marks are nought or one
 pub record MarkedSite (ks ss bs : List ℕ) (i : ℕ) : Type 0 where
-  pub site : Site ks ss bs i
+  pub site : Site ks ss i
   pub row : List Bool
   pub marked : Marked bs i (site .held .tree) row
 

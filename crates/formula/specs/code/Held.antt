@@ -1,6 +1,6 @@
 -- How two slices hold an expression, an operator behind its left and its right operand.
 --   nodes e          == how many slots e takes: one a literal, one an operator
---   kind-of number   == what a node's number stands for
+--   node-kind number   == what a node's number stands for
 --   node-at ks ss i  == the node in the slot i
 --   Holds ks ss i e  == the nodes e slots up to i hold e, its root in the slot i
 -- An occurrence is not stored: it is a literal's rank among the literals as typed.
@@ -11,7 +11,6 @@ use mathlib.Core.Bool.{Bool, true, false, cond}
 use mathlib.Core.List.{List}
 use lib.Dec.{eqb}
 use lib.ListN.{length, getD}
-use Rattle.terms.specs.declared.Primitive.{Primitive}
 use Rattle.formula.specs.declared.Kind as coded
 use Rattle.formula.specs.declared.Kind.the-variants.{Union, Intersection, Literal}
 use Rattle.formula.specs.declared.Node.{Node}
@@ -23,8 +22,8 @@ nodes (literal x) = 1
 nodes (join k l r) = suc (nodes l + nodes r)
 
 -- 0 and 1 stand for the operators, and from 2 on each primitive has two numbers, complemented and plain
-abbrev pub kind-of : ℕ → coded.Kind
-kind-of number =
+abbrev pub node-kind : ℕ → coded.Kind
+node-kind number =
     cond (eqb number 0) Union
     (cond (eqb number 1) Intersection (Literal (record { 0 = (number - 2) / 2 }) (eqb (number % 2) 1)))
 
@@ -46,19 +45,19 @@ operator-kind intersection = Intersection
 
 -- an operator's right operand stands directly before it, and its left operand before that one's subtree
 abbrev pub node-at : List ℕ → List ℕ → ℕ → Node
-node-at ks ss i = record { kind = kind-of (getD ks i 0); left = i - 1 - getD ss (i - 1) 0; right = i - 1 }
+node-at ks ss i = record { kind = node-kind (getD ks i 0); left = i - 1 - getD ss (i - 1) 0; right = i - 1 }
 
 pub record Leaf (ks ss : List ℕ) (i : ℕ) (x : formula.Literal) : Type 0 where
   pub kind-within : i < length ks
   pub span-within : i < length ss
-  pub kind : kind-of (getD ks i 0) ≡ Literal (record { 0 = x .primitive }) (x .sense)
+  pub kind : node-kind (getD ks i 0) ≡ Literal (record { 0 = x .primitive }) (x .sense)
   pub span : getD ss i 0 ≡ 1
 
 -- an operator in the slot i over operands of so many slots
 pub record Joint (ks ss : List ℕ) (i : ℕ) (k : Kind) (lefts rights : ℕ) : Type 0 where
   pub kind-within : i < length ks
   pub span-within : i < length ss
-  pub kind : kind-of (getD ks i 0) ≡ operator-kind k
+  pub kind : node-kind (getD ks i 0) ≡ operator-kind k
   pub fits : lefts + rights ≤ i
   pub span : getD ss i 0 ≡ suc (lefts + rights)
 
@@ -68,6 +67,6 @@ pub data Holds (ks ss : List ℕ) : ℕ → Expr → Type 0 where
       → Holds ks ss (i - 1) r → Holds ks ss i (join k l r)
 
 -- some expression stands up to the slot i
-pub record Held (ks ss : List ℕ) (i : ℕ) : Type 0 where
+pub record SomeHeld (ks ss : List ℕ) (i : ℕ) : Type 0 where
   pub tree : Expr
   pub holds : Holds ks ss i tree
