@@ -15,7 +15,7 @@ use Rattle.terms.specs.Terms.{Place, first-label, most-labels}
 use Rattle.terms.specs.First.{First}
 use Rattle.weaving.specs.declared.label_store.Store as coded
 use Rattle.weaving.specs.Labels.{Slot, free, held, Store, has-label, slot-of, give-back, hand-out, labelled}
-use Rattle.weaving.specs.Kept.{label-room, is-free, Free, SomeFree, Emptied, Changed, slot-free, Keeps, HasOne}
+use Rattle.weaving.specs.code.Kept.{label-room, is-free, Free, SomeFree, Emptied, Changed, slot-free, Keeps, HasOne}
 use Rattle.weaving.proofs.Store.{on, off, known, eqb-same, has-label-give-back, has-label-hand-out, slot-of-below}
 use Rattle.weaving.proofs.CodeStore.{free-within}
 

@@ -16,9 +16,9 @@ use Rattle.weaving.specs.declared.label_store.Store as coded
 use Rattle.weaving.specs.declared.label.Ends.{Ends}
 use Rattle.weaving.specs.Gates.{Gate, gates, false-end}
 use Rattle.weaving.specs.Labels.{Store, has-label, slot-of, entered-on, labelled, left, step, records, stored, last-store, weave}
-use Rattle.weaving.specs.Kept.{SomeFree, Emptied, Keeps, Handed, HasOne, GaveBack}
-use Rattle.weaving.specs.Labelled as labelled-spec
-use Rattle.weaving.specs.Labelled.{Leads, Labelable, own-labels, true-labels, false-labels, LabelledBy, Labelled, Labelling, Reachable, SteppedBy, Stepped, Steppable}
+use Rattle.weaving.specs.code.Kept.{SomeFree, Emptied, Keeps, Handed, HasOne, GaveBack}
+use Rattle.weaving.specs.code.Labelled as labelled-spec
+use Rattle.weaving.specs.code.Labelled.{Leads, Labelable, own-labels, true-labels, false-labels, LabelledBy, Labelled, Labelling, Reachable, SteppedBy, Stepped, Steppable}
 use Rattle.weaving.proofs.Store.{eqb-same, has-label-labelled}
 use Rattle.weaving.proofs.Places.{Numbered, more, gates-numbered, length-gates}
 use Rattle.weaving.proofs.Width.{grown-labelled, length-left}

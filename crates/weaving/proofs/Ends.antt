@@ -11,7 +11,8 @@ use lib.Dec.{eqb}
 use borrow.Author.Tests.{ne-eqb}
 use Rattle.terms.specs.Terms.{Place, first-label}
 use Rattle.formula.specs.Formula.{Kind, union, intersection, Expr, literal, join, literals}
-use Rattle.weaving.specs.Gates.{Gate, true-end, false-end, same-kind, gates-from}
+use Rattle.weaving.specs.Gates.{Gate, true-end, false-end, same-kind}
+use Rattle.weaving.specs.twins.Gates.{gates-from}
 use Rattle.weaving.specs.Labels.{Store, has-label, slot-of, hand-out, labelled, left, step, stored, last-store, weave}
 use Rattle.weaving.proofs.Store.{eqb-same, has-label-left, has-label-labelled, has-label-step, Kept, kept-step, slot-of-labelled, slot-of-first, label-of-injective, left-later, stored-append}
 use Rattle.weaving.proofs.Places.{literals-some, left-true, left-false, gates-join, gates-told}

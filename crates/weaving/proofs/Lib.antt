@@ -1,6 +1,7 @@
+pub mod Named
 pub mod Store
 pub mod Places
-pub mod Run
+pub mod Following
 pub mod Ends
 pub mod Width
 pub mod Range

@@ -11,7 +11,8 @@ use lib.ListN.{length, getD, length-append, length-map, List·getD-map}
 use borrow.Author.Tests.{lt-ltb, le-ltb}
 use Rattle.terms.specs.Terms.{Place}
 use Rattle.formula.specs.Formula.{Literal, Kind, union, intersection, Expr, literal, join, literals}
-use Rattle.weaving.specs.Gates.{Gate, true-end, false-end, in-order, Holder, holders, same-kind, lowest, gate-at, gates-on, gates, gates-from}
+use Rattle.weaving.specs.Gates.{Gate, true-end, false-end, in-order, Holder, holders, same-kind, lowest, gate-at, gates-on, gates}
+use Rattle.weaving.specs.twins.Gates.{gates-from}
 
 pub literals-some : (e : Expr) → 1 ≤ literals e
 unfolding literals

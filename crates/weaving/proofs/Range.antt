@@ -11,9 +11,10 @@ use lib.ListN.{length, take, getD}
 use borrow.Author.Tests.{ltb-true, ltb-false, ne-eqb, le-leb}
 use Rattle.terms.specs.Terms.{Place, Label, first-label, in-range}
 use Rattle.formula.specs.Formula.{Expr, literal, join, literals}
-use Rattle.weaving.specs.Gates.{Gate, true-end, false-end, gates, gates-from}
+use Rattle.weaving.specs.Gates.{Gate, true-end, false-end, gates}
+use Rattle.weaving.specs.twins.Gates.{gates-from}
 use Rattle.weaving.specs.Labels.{free, held, Store, has-label, slot-of, label-of, hand-out, labelled, entered-on, left, step, GateRecord, recorded, records, stored, last-store, weave}
-use Rattle.weaving.specs.Following.{names-label, label-named}
+use Rattle.weaving.proofs.Named.{names-label, label-named}
 use Rattle.weaving.proofs.Store.{on, off, known, eqb-same, has-label-labelled, has-label-true, has-label-false, slot-of-below, slot-of-labelled, stored-append}
 use Rattle.weaving.proofs.Places.{literals-some, left-true, left-false, gates-join, gates-told, length-gates, gate-placed}
 use Rattle.weaving.proofs.Width.{length-left, length-step, some-gate}

@@ -1,18 +1,17 @@
 -- After a gate the places that have labels are those awaited in the gap, and the store grows only when every slot is held,
 -- so its length is the most awaited so far. Assumes nothing.
-use Prim.Native.Nat.{ℕ, zero, suc, _+_, _<_, _≤_, max}
+use Prim.Native.Nat.{ℕ, zero, suc, _<_, _≤_, max}
 use mathlib.Core.Path.{_≡_, refl, sym, ap, _∙_}
 use mathlib.Core.Bool.{Bool, true, false, cond, not, _&&_, _||_, true≢false, and-false, or-false, or-assoc, or-comm}
 use mathlib.Core.List.{List, [], _∷_, _++_}
 use native.Mathlib.Omega.{arith}
 use native.Mathlib.Nat.{le-refl, not-suc-le-zero}
-use native.Mathlib.Numerals.{add-one}
 use lib.Dec.{ltb, eqb}
 use lib.ListN.{length, take, getD}
 use lib.Seq.{take-suc, take-length}
 use borrow.Author.Tests.{eqb-true, eqb-false, ne-eqb, ltb-true, ltb-false, lt-ltb, le-ltb}
 use Rattle.terms.specs.Terms.{Place}
-use Rattle.formula.specs.Formula.{Expr, literals}
+use Rattle.formula.specs.Formula.{Expr}
 use Rattle.weaving.specs.Gates.{Gate, false-end, gates}
 use Rattle.weaving.specs.Awaited.{names, awaited, count-below, waiting, greatest-below, most-awaited}
 use Rattle.weaving.specs.Labels.{free, held, Store, has-label, give-back, hand-out, labelled, left, step, stored, weave}
@@ -256,9 +255,3 @@ greatest-below-fits : (f : ℕ → ℕ) (n m : ℕ) → ((i : ℕ) → f i ≤ m
 unfolding greatest-below
 greatest-below-fits f zero m h = omega arith
 greatest-below-fits f (suc n) m h = omega (arith, greatest-below-fits f n m h, h n)
-
-pub label-count-fits : (e : Expr) → weave e .label-count ≤ literals e + 1
-unfolding most-awaited waiting awaited
-label-count-fits e =
-    rw (label-count-awaited e, add-one, ← length-gates e)
-    (greatest-below-fits (waiting (gates e)) _ _ (λ k. count-below-skips (awaited (gates e) k) _ (rw (le-ltb k 0 (omega arith)))))

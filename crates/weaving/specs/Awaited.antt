@@ -16,7 +16,7 @@ unfoldable pub names : Place → List Gate → Bool
 names p [] = false
 names p (g ∷ gs) = (eqb p (g .true-place) || eqb p (g .false-place)) || names p gs
 
--- "A place is awaited in the gap after gate k if some gate at or before k names it and it lies beyond k."
+-- "A place is awaited in the gap after gate k if some gate at or before k names it and it lies beyond k." (scope 4.4)
 unfoldable pub awaited : List Gate → Place → Place → Bool
 awaited gs k p = ltb k p && names p (take (suc k) gs)
 

@@ -1,8 +1,7 @@
--- Gates and their places, in the page's own words and by recursion.
+-- Gates and their places, in the page's own words.
 --   true-end n, false-end n == True and False, as places beyond the last of n gates
 --   holders e b k           == the operators that hold gate k in their left child, the lowest first
 --   gates e                 == the gates of e, their places as the page tells them
---   gates-from e b t f      == the same by recursion: the first gate is b, and e as a whole leads to t or f
 -- Assumes nothing.
 use Prim.Native.Nat.{ℕ, suc, _+_}
 use mathlib.Core.Bool.{Bool, true, false, cond}
@@ -18,14 +17,14 @@ pub record Gate : Type 0 where
   pub true-place : Place
   pub false-place : Place
 
--- "True and False lie beyond the last gate"
+-- "True and False lie beyond the last gate" (scope 4.3)
 abbrev pub true-end : ℕ → Place
 true-end n = n
 
 abbrev pub false-end : ℕ → Place
 false-end n = suc n
 
--- "The gates are the literals of the turned expression, from left to right, numbered from 0."
+-- "The gates are the literals of the turned expression, from left to right, numbered from 0." (scope 4.2)
 unfoldable pub in-order : Expr → List Literal
 in-order (literal x) = x ∷ []
 in-order (join k l r) = in-order l ++ in-order r
@@ -55,7 +54,7 @@ lowest k [] end = end
 lowest k (h ∷ hs) end = cond (same-kind k (h .kind)) (h .right) (lowest k hs end)
 
 -- "A gate's true place is the first gate in the right child of the lowest intersection that holds it in its left child, or
--- True if there is none; its false place the same with unions, or False"
+-- True if there is none; its false place the same with unions, or False" (scope 4.3)
 unfoldable pub gate-at : Expr → Place → Literal → Gate
 gate-at e k x =
     record {
@@ -71,9 +70,3 @@ gates-on e k (x ∷ xs) = gate-at e k x ∷ gates-on e (suc k) xs
 
 unfoldable pub gates : Expr → List Gate
 gates e = gates-on e 0 (in-order e)
-
--- By recursion: an intersection's left child leads, if true, to the first gate of the right child; a union's, if false.
-unfoldable pub gates-from : Expr → Place → Place → Place → List Gate
-gates-from (literal x) b t f = record { number = b; literal = x; true-place = t; false-place = f } ∷ []
-gates-from (join intersection l r) b t f = gates-from l b (b + literals l) f ++ gates-from r (b + literals l) t f
-gates-from (join union l r) b t f = gates-from l b t (b + literals l) ++ gates-from r (b + literals l) t f

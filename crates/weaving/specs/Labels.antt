@@ -7,7 +7,7 @@
 --   weave e       == the gates of e with their labels, the number of labels, and the labels of True and False
 -- Assumes nothing.
 use Prim.Native.Nat.{ℕ, zero, suc, _+_}
-use mathlib.Core.Bool.{Bool, true, false, cond, _||_}
+use mathlib.Core.Bool.{Bool, false, cond, _||_}
 use mathlib.Core.List.{List, [], _∷_}
 use lib.Dec.{eqb}
 use lib.ListN.{length}
@@ -33,37 +33,37 @@ slot-of p [] = 0
 slot-of p (free ∷ s) = suc (slot-of p s)
 slot-of p (held q ∷ s) = cond (eqb p q) 0 (suc (slot-of p s))
 
--- "numbered from 0"
+-- "numbered from 0" (scope 4.2)
 abbrev pub label-of : Place → Store → Label
 label-of p s = first-label + slot-of p s
 
--- "A label given back is used again."
+-- "A label given back is used again." (scope 4.5)
 unfoldable pub give-back : Place → Store → Store
 give-back p [] = []
 give-back p (free ∷ s) = free ∷ give-back p s
 give-back p (held q ∷ s) = cond (eqb p q) free (held q) ∷ give-back p s
 
--- "the lowest free one": the first free slot, or a new one after all that are held
+-- "the lowest free one": the first free slot, or a new one after all that are held (scope 4.5)
 unfoldable pub hand-out : Place → Store → Store
 hand-out p [] = held p ∷ []
 hand-out p (free ∷ s) = held p ∷ s
 hand-out p (held q ∷ s) = held q ∷ hand-out p s
 
--- "its true place, if it has no label, gets the lowest free one"
+-- "its true place, if it has no label, gets the lowest free one" (scope 4.5)
 unfoldable pub labelled : Place → Store → Store
 labelled p s = cond (has-label p s) s (hand-out p s)
 
--- "Gate 0 is entered on label 0."
+-- "Gate 0 is entered on label 0." (scope 4.5)
 abbrev pub entered-on : Place → Store → Label
 entered-on zero s = first-label
 entered-on (suc k) s = label-of (suc k) s
 
--- "A gate after the first first gives back its own label."
+-- "A gate after the first first gives back its own label." (scope 4.5)
 abbrev pub left : Place → Store → Store
 left zero s = s
 left (suc k) s = give-back (suc k) s
 
--- "Then its true place .. ; then its false place likewise."
+-- "Then its true place .. ; then its false place likewise." (scope 4.5)
 unfoldable pub step : Gate → Store → Store
 step g s = labelled (g .false-place) (labelled (g .true-place) (left (g .number) s))
 
@@ -83,7 +83,7 @@ recorded g before after =
       on-false = label-of (g .false-place) after;
     }
 
--- "gates are taken in order"
+-- "gates are taken in order" (scope 4.5)
 unfoldable pub records : List Gate → Store → List GateRecord
 records [] s = []
 records (g ∷ gs) s = recorded g s (step g s) ∷ records gs (step g s)

@@ -1,7 +1,5 @@
 pub mod Gates
+pub mod twins
 pub mod Awaited
 pub mod Labels
-pub mod Following
-pub mod Laid
-pub mod Kept
-pub mod Labelled
+pub mod code

@@ -2,16 +2,15 @@
 use crate::label_store;
 use crate::label_store::Store;
 use crate::lay;
+use terms::FIRST_LABEL;
 use terms::Label;
 use terms::Place;
 ghost use mathlib.Core.Path.{_≡_};
 ghost use Prim.Native.Nat.{_+_, _≤_, _<_};
 ghost use lib.ListN.{length, getD};
 ghost use Rattle.terms.specs.Terms.{first-label};
-ghost use Rattle.weaving.specs.Kept.{SomeFree, HasOne, Handed, GaveBack};
-ghost use Rattle.weaving.specs.Labelled.{Labelled, Labelling, Stepped, Steppable};
-
-const FIRST_LABEL: u8 = 0;
+ghost use Rattle.weaving.specs.code.Kept.{SomeFree, HasOne, Handed, GaveBack};
+ghost use Rattle.weaving.specs.code.Labelled.{Labelled, Labelling, Stepped, Steppable};
 
 // The labels of True and False.
 pub struct Ends {

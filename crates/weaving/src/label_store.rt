@@ -4,7 +4,7 @@ ghost use mathlib.Core.Path.{_≡_};
 ghost use mathlib.Core.Bool.{true, false};
 ghost use Prim.Native.Nat.{_<_};
 ghost use Rattle.terms.specs.First.{First};
-ghost use Rattle.weaving.specs.Kept.{label-room, Free, SomeFree, Emptied, Changed};
+ghost use Rattle.weaving.specs.code.Kept.{label-room, Free, SomeFree, Emptied, Changed};
 
 pub struct Store {
     pub free: [u8; 16],

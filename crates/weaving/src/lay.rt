@@ -1,11 +1,12 @@
-// The gates of a held expression as its marks arrange it, written out with their places.
+// The gates of a held expression as its marks arrange it, written out with their places. No recursion: the slots are taken from the
+// root down, so that an operator comes before its operands and has handed them their first gate and their places.
 use formula::Kind;
 use terms::Place;
+use terms::Primitive;
 ghost use mathlib.Core.Path.{_≡_};
-ghost use Prim.Native.Nat.{_+_, _/_, _≤_, _<_};
-ghost use lib.ListN.{length};
+ghost use Prim.Native.Nat.{suc, _+_, _*_, _/_, _≤_, _<_};
 ghost use Rattle.terms.specs.Terms.{most-literals};
-ghost use Rattle.weaving.specs.Laid.{LaidOut, Roomy, OneLaid, in-order-of, first-true, first-false};
+ghost use Rattle.weaving.specs.code.Laid.{laying, GateLaid, HandedTo, HandedDown, slot-laid, slots-laid, sense-byte, in-order-of, first-true, first-false, Pending, Operating, Layable, LaidOut};
 
 // The slots of an operator's operands, in the order of the gates.
 pub struct Operands {
@@ -70,72 +71,208 @@ pub fn wide(place: Place) -> usize
     place.0 as usize
 }
 
-// One gate: its literal's number and its two places.
+fn sense_byte(sense: bool) -> u8
+    ensures { λ r. ⌜ r ≡ sense-byte sense ⌝ }
+{
+    if sense { 1 } else { 0 }
+}
+
+// One gate: what its literal carries, and its two places.
 fn lay_gate(
     b: Place,
-    number: u16,
+    primitive: Primitive,
+    sense: bool,
     t: Place,
     f: Place,
-    gates: &mut [u16],
-    trues: &mut [u16],
-    falses: &mut [u16],
+    primitives: &mut [u16; 1024],
+    senses: &mut [u8; 1024],
+    trues: &mut [u16; 1024],
+    falses: &mut [u16; 1024],
 )
-    requires { ⌜ b .0 < length (now gates) ⌝ }
-    requires { ⌜ b .0 < length (now trues) ⌝ }
-    requires { ⌜ b .0 < length (now falses) ⌝ }
-    ensures { λ _. ⌜ OneLaid (now (gates .entry)) (now (trues .entry)) (now (falses .entry)) (now (gates .exit)) (now (trues .exit)) (now (falses .exit)) (b .0) number (t .0) (f .0) ⌝ }
+    requires { ⌜ b .0 < most-literals ⌝ }
+    ensures { λ _. ⌜ GateLaid (b .0) (primitive .0) sense (t .0) (f .0) (now (primitives .entry)) (now (senses .entry)) (now (trues .entry)) (now (falses .entry)) (now (primitives .exit)) (now (senses .exit)) (now (trues .exit)) (now (falses .exit)) ⌝ }
 {
     let at = wide(b);
-    gates[at] = number;
+    primitives[at] = primitive.0;
+    senses[at] = sense_byte(sense);
     trues[at] = t.0;
     falses[at] = f.0;
 }
 
-// Lays out the gates of the expression held up to the slot i from gate b on; as a whole it leads to t or f. The second
-// operand first, and then round again for the first one, so that depth in first operands takes no stack: a chain has its depth
-// there, but where a mark exchanges its operands.
-pub fn lay(
-    kinds: &[u16],
-    spans: &[u16],
-    marks: &[u8],
-    i: usize,
+// Hands the operand in the slot `at` its first gate, and where it leads as a whole.
+fn hand(
+    at: usize,
     b: Place,
     t: Place,
     f: Place,
-    gates: &mut [u16],
-    trues: &mut [u16],
-    falses: &mut [u16],
+    firsts: &mut [u16; 2047],
+    leads_true: &mut [u16; 2047],
+    leads_false: &mut [u16; 2047],
 )
-    requires { ⌜ Roomy (now kinds) (now spans) (now marks) i (b .0) (now gates) (now trues) (now falses) ⌝ }
-    ensures { λ _. ⌜ LaidOut (now (kinds .entry)) (now (spans .entry)) (now (marks .entry)) i (b .0) (t .0) (f .0) (now (gates .entry)) (now (trues .entry)) (now (falses .entry)) (now (gates .exit)) (now (trues .exit)) (now (falses .exit)) ⌝ }
+    requires { ⌜ at < 2047 ⌝ }
+    ensures { λ _. ⌜ HandedTo at (b .0) (t .0) (f .0) (now (firsts .entry)) (now («leads_true» .entry)) (now («leads_false» .entry)) (now (firsts .exit)) (now («leads_true» .exit)) (now («leads_false» .exit)) ⌝ }
 {
-    let mut at = i;
-    let mut on_true = t;
-    let mut on_false = f;
-    loop {
-        let node = formula::node_at(kinds, spans, at);
-        let kind = node.kind;
-        if formula::is_literal(kind) {
-            lay_gate(b, kinds[at], on_true, on_false, gates, trues, falses);
-            return;
+    firsts[at] = b.0;
+    leads_true[at] = t.0;
+    leads_false[at] = f.0;
+}
+
+// An operator whose first gate is b hands both operands their part; the first one's gates come first.
+fn lay_operator(
+    kind: Kind,
+    operands: Operands,
+    spans: &[u16; 2047],
+    b: Place,
+    t: Place,
+    f: Place,
+    firsts: &mut [u16; 2047],
+    leads_true: &mut [u16; 2047],
+    leads_false: &mut [u16; 2047],
+)
+    requires { ⌜ Operating operands (now spans) (b .0) ⌝ }
+    ensures { λ _. ⌜ HandedDown kind operands (now (spans .entry)) (b .0) (t .0) (f .0) (now (firsts .entry)) (now («leads_true» .entry)) (now («leads_false» .entry)) (now (firsts .exit)) (now («leads_true» .exit)) (now («leads_false» .exit)) ⌝ }
+{
+    let first = operands.first;
+    let second = operands.second;
+    let next = after(b, spans[first]);
+    hand(second, next, t, f, firsts, leads_true, leads_false);
+    let on_true = first_true(kind, next, t);
+    let on_false = first_false(kind, next, f);
+    hand(first, b, on_true, on_false, firsts, leads_true, leads_false);
+}
+
+// The slot i: a literal is a gate, and an operator hands down.
+fn lay_slot(
+    kinds: &[u16; 2047],
+    spans: &[u16; 2047],
+    marks: &[u8; 2047],
+    i: usize,
+    firsts: &mut [u16; 2047],
+    leads_true: &mut [u16; 2047],
+    leads_false: &mut [u16; 2047],
+    primitives: &mut [u16; 1024],
+    senses: &mut [u8; 1024],
+    trues: &mut [u16; 1024],
+    falses: &mut [u16; 1024],
+)
+    requires { ⌜ Pending (now kinds) (now spans) (now firsts) (suc i) ⌝ }
+    ensures { λ _. ⌜ laying (now (firsts .exit)) (now («leads_true» .exit)) (now («leads_false» .exit)) (now (primitives .exit)) (now (senses .exit)) (now (trues .exit)) (now (falses .exit)) ≡ slot-laid (now (kinds .entry)) (now (spans .entry)) (now (marks .entry)) i (laying (now (firsts .entry)) (now («leads_true» .entry)) (now («leads_false» .entry)) (now (primitives .entry)) (now (senses .entry)) (now (trues .entry)) (now (falses .entry))) ⌝ }
+{
+    let node = formula::node_at(kinds, spans, i);
+    let operands = in_order(marks[i], node.left, node.right);
+    let b = Place(firsts[i]);
+    let t = Place(leads_true[i]);
+    let f = Place(leads_false[i]);
+    let kind = node.kind;
+    match kind {
+        Kind::Union => {
+            lay_operator(
+                kind,
+                operands,
+                spans,
+                b,
+                t,
+                f,
+                firsts,
+                leads_true,
+                leads_false,
+            );
         }
-        let operands = in_order(marks[at], node.left, node.right);
-        let first = operands.first;
-        let next = after(b, spans[first]);
-        lay(
+        Kind::Intersection => {
+            lay_operator(
+                kind,
+                operands,
+                spans,
+                b,
+                t,
+                f,
+                firsts,
+                leads_true,
+                leads_false,
+            );
+        }
+        Kind::Literal { primitive, sense } => {
+            lay_gate(b, primitive, sense, t, f, primitives, senses, trues, falses);
+        }
+    }
+}
+
+// The `count` slots from the front, the last first.
+fn lay_slots(
+    kinds: &[u16; 2047],
+    spans: &[u16; 2047],
+    marks: &[u8; 2047],
+    count: usize,
+    firsts: &mut [u16; 2047],
+    leads_true: &mut [u16; 2047],
+    leads_false: &mut [u16; 2047],
+    primitives: &mut [u16; 1024],
+    senses: &mut [u8; 1024],
+    trues: &mut [u16; 1024],
+    falses: &mut [u16; 1024],
+)
+    requires { ⌜ Pending (now kinds) (now spans) (now firsts) count ⌝ }
+    ensures { λ _. ⌜ laying (now (firsts .exit)) (now («leads_true» .exit)) (now («leads_false» .exit)) (now (primitives .exit)) (now (senses .exit)) (now (trues .exit)) (now (falses .exit)) ≡ slots-laid (now (kinds .entry)) (now (spans .entry)) (now (marks .entry)) count (laying (now (firsts .entry)) (now («leads_true» .entry)) (now («leads_false» .entry)) (now (primitives .entry)) (now (senses .entry)) (now (trues .entry)) (now (falses .entry))) ⌝ }
+{
+    let mut left = count;
+    while left > 0 {
+        left -= 1;
+        lay_slot(
             kinds,
             spans,
             marks,
-            operands.second,
-            next,
-            on_true,
-            on_false,
-            gates,
+            left,
+            firsts,
+            leads_true,
+            leads_false,
+            primitives,
+            senses,
             trues,
             falses,
         );
-        on_true = first_true(kind, next, on_true);
-        on_false = first_false(kind, next, on_false);
-        at = first;
     }
+}
+
+// Lays out the n gates of the held expression: what each literal carries, and its true and false place.
+pub fn lay(
+    kinds: &[u16; 2047],
+    spans: &[u16; 2047],
+    marks: &[u8; 2047],
+    n: usize,
+    primitives: &mut [u16; 1024],
+    senses: &mut [u8; 1024],
+    trues: &mut [u16; 1024],
+    falses: &mut [u16; 1024],
+)
+    requires { ⌜ Layable (now kinds) (now spans) (now marks) n ⌝ }
+    ensures { λ _. ⌜ LaidOut (now (kinds .entry)) (now (spans .entry)) (now (marks .entry)) n (now (primitives .entry)) (now (senses .entry)) (now (trues .entry)) (now (falses .entry)) (now (primitives .exit)) (now (senses .exit)) (now (trues .exit)) (now (falses .exit)) ⌝ }
+{
+    let mut firsts = [0u16; 2047];
+    let mut leads_true = [0u16; 2047];
+    let mut leads_false = [0u16; 2047];
+    let root = 2 * n - 2;
+    let true_end = Place(n as u16);
+    let false_end = Place((n + 1) as u16);
+    hand(
+        root,
+        Place(0),
+        true_end,
+        false_end,
+        &mut firsts,
+        &mut leads_true,
+        &mut leads_false,
+    );
+    lay_slots(
+        kinds,
+        spans,
+        marks,
+        root + 1,
+        &mut firsts,
+        &mut leads_true,
+        &mut leads_false,
+        primitives,
+        senses,
+        trues,
+        falses,
+    );
 }

@@ -19,21 +19,28 @@ lowest-free-requires : tie.Need-lowest-free-requires
 lowest-free-requires c κs = search needs
 
 add-held : tie.Need-add-held
-add-held c = omega (arith, free-within (c .before .before .before .before .before .before .args .store) (c .before .lowest-free .result .0) (c .before .lowest-free .ensures .here))
+add-held c =
+    let at-args = c .before .before .before .before .before .before in
+    omega (arith, free-within (at-args .args .store) (c .before .lowest-free .result .0) (c .before .lowest-free .ensures .here))
 
 slice-write-held : tie.Need-slice-write-held
 slice-write-held c = search needs
 
 take-requires : tie.Need-take-requires
-take-requires c κs = free-within (c .before .before .before .before .before .before .args .store) _ (c .before .lowest-free .ensures .here)
+take-requires c κs =
+    let at-args = c .before .before .before .before .before .before in
+    free-within (at-args .args .store) _ (c .before .lowest-free .ensures .here)
 
 same-length : tie.Need-same-length
 same-length c = search needs
 
 returns-2 : tie.Need-returns-2
 returns-2 c =
+    let at-if1 = c .before .before .before in
+    let at-wide = at-if1 .before .before in
+    let at-start = at-wide .before .before in
     record {
-      each = λ s k. keeps-handed _ _ s k _ _ _ _ (c .before .before .before .before .before .wide .ensures) (c .before .before .before .if1 .left) (c .before .before .before .before .before .before .before .pre .0) (c .before .before .lowest-free .ensures) (c .take .ensures);
+      each = λ s k. keeps-handed _ _ s k _ _ _ _ (at-wide .wide .ensures) (at-if1 .if1 .left) (at-start .pre .0) (c .before .before .lowest-free .ensures) (c .take .ensures);
     }
 
 pub hold-spec : {M : Type 1} → statement M

@@ -22,53 +22,78 @@ loop-holds : tie.Need-loop-holds Inv-loop μ-loop
 loop-holds c = midway-none _ _ _ _ _ _ _ (c .all-free .ensures)
 
 cast-gate : tie.Need-cast-gate Inv-loop μ-loop
-cast-gate c = omega (arith, c .loop-test .taken, c .before .before .before .before .before .before .before .before .pre .few)
+cast-gate c =
+    let at-start = c .before .before .before .before .before .before .before .before in
+    omega (arith, c .loop-test .taken, at-start .pre .few)
 
 mul-t : tie.Need-mul-t Inv-loop μ-loop
 mul-t c = search needs
 
 shared-slice-read-t : tie.Need-shared-slice-read-t Inv-loop μ-loop
-shared-slice-read-t c = omega (arith, c .before .loop-test .taken, c .before .before .before .before .before .before .before .before .before .pre .trues-long)
+shared-slice-read-t c =
+    let at-start = c .before .before .before .before .before .before .before .before .before in
+    omega (arith, c .before .loop-test .taken, at-start .pre .trues-long)
 
 mul-f : tie.Need-mul-f Inv-loop μ-loop
 mul-f c = search needs
 
 shared-slice-read-f : tie.Need-shared-slice-read-f Inv-loop μ-loop
-shared-slice-read-f c = omega (arith, c .before .before .loop-test .taken, c .before .before .before .before .before .before .before .before .before .before .pre .falses-long)
+shared-slice-read-f c =
+    let at-start = c .before .before .before .before .before .before .before .before .before .before in
+    omega (arith, c .before .before .loop-test .taken, at-start .pre .falses-long)
 
 slice-aggregate-step : tie.Need-slice-aggregate-step Inv-loop μ-loop
 slice-aggregate-step c = sym (c .before .before .before .before .loop .inv .held-long)
 
 step-requires : tie.Need-step-requires Inv-loop μ-loop
-step-requires c κs = midway-asked _ _ _ _ _ _ (c .before .before .before .before .before .before .before .before .before .before .before .before .before .before .pre) _ _ _ _ _ _ (c .before .before .before .before .before .before .before .loop .inv) _ _ (c .before .before .before .before .before .before .loop-test .taken) refl refl
+step-requires c κs =
+    let at-loop-test = c .before .before .before .before .before .before in
+    let at-loop = at-loop-test .before in
+    let at-start = at-loop .before .before .before .before .before .before .before in
+    midway-asked _ _ _ _ _ _ (at-start .pre) _ _ _ _ _ _ (at-loop .loop .inv) _ _ (at-loop-test .loop-test .taken) refl refl
 
 add-k : tie.Need-add-k Inv-loop μ-loop
-add-k c = omega (arith, c .before .before .before .before .before .before .before .before .before .before .before .before .before .before .loop-test .taken, c .before .before .before .before .before .before .before .before .before .before .before .before .before .before .before .before .before .before .before .before .before .before .pre .few)
+add-k c =
+    let at-loop-test = c .before .before .before .before .before .before .before .before .before .before .before .before .before .before in
+    let at-start = at-loop-test .before .before .before .before .before .before .before .before in
+    omega (arith, at-loop-test .loop-test .taken, at-start .pre .few)
 
 loop-less : tie.Need-loop-less Inv-loop μ-loop
-loop-less c = let h = c .before .before .before .before .before .before .before .before .before .before .before .before .before .before .loop-test .taken in omega arith
+loop-less c =
+    let at-loop-test = c .before .before .before .before .before .before .before .before .before .before .before .before .before .before in
+    let h = at-loop-test .loop-test .taken in omega arith
 
 loop-again : tie.Need-loop-again Inv-loop μ-loop
 loop-again c =
-    let kept = c .before .before .before .before .before .before .before .step .kept in
-    midway-on _ _ _ _ _ _ (c .before .before .before .before .before .before .before .before .before .before .before .before .before .before .before .before .before .before .before .before .before .before .pre) _ _ _ _ _ _ (c .before .before .before .before .before .before .before .before .before .before .before .before .before .before .before .loop .inv) _ _ _ _ _ _ _ (c .before .before .before .before .before .before .before .before .before .before .before .before .before .before .loop-test .taken) refl refl
-    (c .before .before .before .before .before .before .before .step .ensures)
+    let at-step = c .before .before .before .before .before .before .before in
+    let at-loop-test = at-step .before .before .before .before .before .before .before in
+    let at-loop = at-loop-test .before in
+    let at-start = at-loop .before .before .before .before .before .before .before in
+    let kept = at-step .step .kept in
+    midway-on _ _ _ _ _ _ (at-start .pre) _ _ _ _ _ _ (at-loop .loop .inv) _ _ _ _ _ _ _ (at-loop-test .loop-test .taken) refl refl
+    (at-step .step .ensures)
     (kept .1 .0)
     (kept .1 .1 .1 .1 .1 .0)
     (kept .1 .1 .1 .1 .1 .1 .0)
     (kept .1 .1 .1 .1 .1 .1 .1 .0)
 
 cast-true-end : tie.Need-cast-true-end Inv-loop μ-loop
-cast-true-end c = omega (arith, c .before .before .before .before .before .before .before .before .pre .few)
+cast-true-end c =
+    let at-start = c .before .before .before .before .before .before .before .before in
+    omega (arith, at-start .pre .few)
 
 add-false-end : tie.Need-add-false-end Inv-loop μ-loop
-add-false-end c = omega (arith, c .before .before .before .before .before .before .before .before .pre .few)
+add-false-end c =
+    let at-start = c .before .before .before .before .before .before .before .before in
+    omega (arith, at-start .pre .few)
 
 slice-aggregate-ends-of : tie.Need-slice-aggregate-ends-of Inv-loop μ-loop
 slice-aggregate-ends-of c = sym (c .before .before .loop .inv .held-long)
 
 ends-of-requires : tie.Need-ends-of-requires Inv-loop μ-loop
-ends-of-requires c κs = midway-ends _ _ _ _ _ _ (c .before .before .before .before .before .before .before .before .before .pre) _ _ _ _ _ _ (c .before .before .loop .inv) (c .before .loop-test .left)
+ends-of-requires c κs =
+    let at-start = c .before .before .before .before .before .before .before .before .before in
+    midway-ends _ _ _ _ _ _ (at-start .pre) _ _ _ _ _ _ (c .before .before .loop .inv) (c .before .loop-test .left)
 
 same-length : tie.Need-same-length Inv-loop μ-loop
 same-length c = c .before .before .before .loop .inv .owns-long
@@ -81,7 +106,9 @@ same-length-3 c = c .before .before .before .loop .inv .on-falses-long
 
 returns : tie.Need-returns Inv-loop μ-loop
 returns c =
-    midway-labelled _ _ _ _ _ _ (c .before .before .before .before .before .before .before .before .before .before .pre) _ _ _ _ _ _ (c .before .before .before .loop .inv) (c .before .before .loop-test .left) _ (c .ends-of .ensures .0) (c .ends-of .ensures .1)
+    let at-loop = c .before .before .before in
+    let at-start = at-loop .before .before .before .before .before .before .before in
+    midway-labelled _ _ _ _ _ _ (at-start .pre) _ _ _ _ _ _ (at-loop .loop .inv) (c .before .before .loop-test .left) _ (c .ends-of .ensures .0) (c .ends-of .ensures .1)
 
 pub label-spec : {M : Type 1} → statement M
 label-spec =

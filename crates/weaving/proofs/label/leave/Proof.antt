@@ -24,16 +24,20 @@ slice-write-held : tie.Need-slice-write-held
 slice-write-held c = search needs
 
 give-back-requires : tie.Need-give-back-requires
-give-back-requires c κs = omega (arith, c .before .label-of .ensures, c .before .before .before .before .before .before .pre .1 (later (c .before .before .before)) .within)
+give-back-requires c κs =
+    let at-start = c .before .before .before .before .before .before in
+    omega (arith, c .before .label-of .ensures, at-start .pre .1 (later (c .before .before .before)) .within)
 
 same-length : tie.Need-same-length
 same-length c = search needs
 
 returns-2 : tie.Need-returns-2
 returns-2 c =
+    let at-before = c .before .before .before in
+    let at-args = at-before .before .before .before .before in
     record {
-      each = λ s k own. rw (left-later (c .before .before .before .before .before .before .before .args .k .0) s (later (c .before .before .before .before)))
-          (keeps-given _ _ s k _ _ _ _ (c .before .wide .ensures) (own (later (c .before .before .before .before))) (c .before .before .before .before .before .before .before .pre .0) (c .before .before .label-of .ensures) (c .give-back .ensures));
+      each = λ s k own. rw (left-later (at-args .args .k .0) s (later (at-before .before)))
+          (keeps-given _ _ s k _ _ _ _ (c .before .wide .ensures) (own (later (at-before .before))) (at-args .pre .0) (c .before .before .label-of .ensures) (c .give-back .ensures));
     }
 
 pub leave-spec : {M : Type 1} → statement M

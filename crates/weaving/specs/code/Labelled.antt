@@ -18,7 +18,7 @@ use Rattle.weaving.specs.declared.label_store.Store as coded
 use Rattle.weaving.specs.declared.label.Ends.{Ends}
 use Rattle.weaving.specs.Gates.{Gate, gates}
 use Rattle.weaving.specs.Labels.{Store, has-label, label-of, entered-on, labelled, left, GateRecord, Woven, weave}
-use Rattle.weaving.specs.Kept.{Keeps}
+use Rattle.weaving.specs.code.Kept.{Keeps}
 
 pub data Leads (ts fs : List ℕ) : Place → List Gate → Type 0 where
   none : {k : Place} → Leads ts fs k []

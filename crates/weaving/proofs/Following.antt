@@ -11,11 +11,27 @@ use lib.ListN.{length, getD}
 use borrow.Author.Tests.{eqb-true, eqb-false, ne-eqb}
 use Rattle.terms.specs.Terms.{Place, Label, first-label}
 use Rattle.formula.specs.Formula.{Literal, Kind, union, intersection, Expr, literal, join, literals, sensed, joined, value}
-use Rattle.weaving.specs.Gates.{Gate, true-end, false-end, in-order, same-kind, gates, gates-from}
+use Rattle.weaving.specs.Gates.{Gate, true-end, false-end, in-order, same-kind, gates}
+use Rattle.weaving.specs.twins.Gates.{gates-from}
 use Rattle.weaving.specs.Labels.{Store, has-label, label-of, entered-on, step, GateRecord, recorded, records, stored, weave}
-use Rattle.weaving.specs.Following.{moved, follow, follow-by}
 use Rattle.weaving.proofs.Store.{on, off, known, eqb-same, label-of-injective, has-label-true, has-label-false, kept-step, entered-later}
 use Rattle.weaving.proofs.Places.{literals-some, Numbered, none, more, left-true, left-false, left-from, gates-join, gates-numbered, gates-told, gates-literals, length-gates, length-in-order}
+
+-- "If the run's label is the gate's own, it becomes the gate's true or false label; otherwise it stays."
+abbrev pub label-after : GateRecord → Bool → Label → Label
+label-after r truth l = cond (eqb l (r .own)) (cond truth (r .on-true) (r .on-false)) l
+
+-- the label that a run over the records ends on, where truth gives each literal its own
+unfoldable pub follow : List GateRecord → (Literal → Bool) → Label → Label
+follow [] truth l = l
+follow (r ∷ rs) truth l = follow rs truth (label-after r (truth (r .literal)) l)
+
+-- the same, where each gate in its turn is fed "the truth of the primitive; an `N` gate takes the opposite"; what is left ends
+-- where the truths or the gates do
+unfoldable pub follow-by : List GateRecord → List Bool → Label → Label
+follow-by [] us l = l
+follow-by (r ∷ rs) [] l = l
+follow-by (r ∷ rs) (u ∷ us) l = follow-by rs us (label-after r (sensed (r .literal .sense) u) l)
 
 -- a run over places
 unfoldable pub visit : List Gate → (Literal → Bool) → Place → Place
@@ -78,15 +94,15 @@ follow-own : (g : Gate) (gs : List Gate) (truth : Literal → Bool) (s : Store)
     → follow (records (g ∷ gs) s) truth (entered-on (g .number) s) ≡ label-of (visit (g ∷ gs) truth (g .number)) (stored (g ∷ gs) s)
 unfolding follow records stored visit
 follow-own g gs truth s later =
-    ap (follow (records gs (step g s)) truth) (moved-own (recorded g s (step g s)) (truth (g .literal)))
+    ap (follow (records gs (step g s)) truth) (label-after-own (recorded g s (step g s)) (truth (g .literal)))
     ∙ rw (eqb-same (g .number))
     (elim (known (truth (g .literal))) [
       | on v ↦ rw v (later (g .true-place) (step g s) (has-label-true g s))
       | off v ↦ rw v (later (g .false-place) (step g s) (has-label-false g s))
     ])
   where
-    moved-own : (r : GateRecord) (v : Bool) → moved r v (r .own) ≡ cond v (r .on-true) (r .on-false)
-    moved-own r v = rw (eqb-same (r .own))
+    label-after-own : (r : GateRecord) (v : Bool) → label-after r v (r .own) ≡ cond v (r .on-true) (r .on-false)
+    label-after-own r v = rw (eqb-same (r .own))
 
 -- after the first gate a run stands on the label of the place that it has come to
 follow-later : {n k : Place} {gs : List Gate} → Numbered n (suc k) gs
