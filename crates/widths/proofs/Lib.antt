@@ -1,0 +1,4 @@
+pub mod Counts
+pub mod GapCosts
+pub mod Gaps
+pub mod LabelCount
