@@ -1,6 +1,6 @@
 pub mod Steps
+pub mod Lengths
 pub mod Checking
-pub mod Searched
 pub mod Whole
 pub mod Tested
 pub mod WriteBytes

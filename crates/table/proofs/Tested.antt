@@ -8,16 +8,14 @@ use mathlib.Core.Bool.{Bool, true, false, not, _&&_, _||_}
 use mathlib.Core.Option.{Option, none, some}
 use mathlib.Core.Logic.{_⊎_, inl, inr, ⊎-elim, _≢_, _↔_}
 use mathlib.Core.List.{List}
-use native.Mathlib.Omega.{arith}
 use borrow.Author.Tests.{leb-true, ltb-true, eqb-true, eqb-false, le-leb, lt-ltb, eq-eqb, ne-eqb, not-true, not-false}
 use lib.Dec.{leb, ltb, eqb}
-use lib.ListN.{length}
 use Rattle.terms.specs.Terms.{first-label, in-range}
-use Rattle.terms.specs.First.{First, first-from}
+use Rattle.terms.specs.First.{first-below}
 use Rattle.table.specs.Layout.{P, N, header-of, gate-of, end-of, record-start}
 use Rattle.table.specs.WellFormed.{HeaderFits, LengthFits, InRange, GateFits, EndFits, WellFormed, FrameFault, of-header, of-length, GateFault, Framed, Fault, of-frame, of-gate, of-end}
-use Rattle.table.specs.Faults.{header-fits, length-fits, gate-fits, end-fits, frame-fault, end-fault, table-fault, or-else, starting}
-use Rattle.table.proofs.Searched.{nothing-found, found-first, first-passes, none-passes}
+use Rattle.table.specs.twins.Faults.{header-fits, length-fits, gate-fits, end-fits, frame-fault, end-fault, table-fault, or-else, starting}
+use Rattle.terms.proofs.First.{Tests, first-below-none, first-below-first, first-first-below, nowhere-first-below}
 use Rattle.table.proofs.Whole.{both-true, place-given, place-not-given, nought-one}
 
 -- a test that fails, where the test tells S
@@ -173,56 +171,45 @@ module _ (table : List ℕ) where
   abbrev pub bad-gate : ℕ → Bool
   bad-gate k = not (gate-fits table k)
 
-  gates-fit : first-from bad-gate 0 (header-of table .gates) ≡ none → (k : ℕ) → k < header-of table .gates → GateFits table k
-  gates-fit e k l = gate-told k .0 (not-false _ (none-passes bad-gate 0 (header-of table .gates) e k (omega arith, omega arith)))
-
-  gates-none : ((k : ℕ) → k < header-of table .gates → GateFits table k) → first-from bad-gate 0 (header-of table .gates) ≡ none
-  gates-none all = nothing-found bad-gate 0 (header-of table .gates) (λ k m. ap not (gate-told k .1 (all k (omega (arith, m .1)))))
-
-  first-gate-fault : (k : ℕ) → first-from bad-gate 0 (header-of table .gates) ≡ some k → First (GateFault table) k
-  first-gate-fault k e =
-      let p = first-passes bad-gate 0 (header-of table .gates) k e in
+  gates-tested : Tests (GateFault table) bad-gate (header-of table .gates)
+  gates-tested =
       record {
-        here = record { within = omega (arith, p .among .1); fault = fails-told _ (gate-told k) .0 (not-true _ (p .here)) };
-        none-before = λ j l f. f .fault (gate-told j .0 (not-false _ (p .before j (omega arith) l)));
+        shows = λ k l e. record { within = l; fault = fails-told _ (gate-told k) .0 (not-true _ e) };
+        within = λ k f. f .within;
+        finds = λ k f. ap not (fails-told _ (gate-told k) .1 (f .fault));
       }
 
-  gate-fits-before : (k : ℕ) → First (GateFault table) k → (j : ℕ) → j < k → (t : Bool) → gate-fits table j ≡ t → gate-fits table j ≡ true
-  gate-fits-before k f j l true e = e
-  gate-fits-before k f j l false e =
-      absurd (f .none-before j l (record { within = omega (arith, f .here .within); fault = fails-told _ (gate-told j) .0 e }))
+  gates-fit : first-below bad-gate (header-of table .gates) ≡ none → (k : ℕ) → k < header-of table .gates → GateFits table k
+  gates-fit e k l = gate-told k .0 (not-false _ (first-below-none bad-gate (header-of table .gates) e k l))
 
-  found-gate : (k : ℕ) → First (GateFault table) k → first-from bad-gate 0 (header-of table .gates) ≡ some k
-  found-gate k f =
-      found-first bad-gate 0 (header-of table .gates) k (omega arith, omega (arith, f .here .within))
-      (ap not (fails-told _ (gate-told k) .1 (f .here .fault)))
-      (λ j lo l. ap not (gate-fits-before k f j l (gate-fits table j) refl))
+  gates-none : ((k : ℕ) → k < header-of table .gates → GateFits table k) → first-below bad-gate (header-of table .gates) ≡ none
+  gates-none all = nowhere-first-below gates-tested (λ k first. first .here .fault (all k (first .here .within)))
 
   -- the places that the three parts give, in order
-  picked : (at : ℕ) (frame gates : Option ℕ) → frame-fault table ≡ frame → first-from bad-gate 0 (header-of table .gates) ≡ gates
-      → or-else frame (or-else (starting gates) (end-fault table)) ≡ some at → Fault table at
+  picked : (at : ℕ) (frame gates : Option ℕ) → frame-fault table ≡ frame → first-below bad-gate (header-of table .gates) ≡ gates
+      → or-else frame (or-else (starting (header-of table) gates) (end-fault table)) ≡ some at → Fault table at
   picked at (some p) gates ef eg e = let q : p ≡ at = cc in rw (← q) (of-frame (frame-told p .0 ef))
   picked at none (some k) ef eg e =
-      let q : record-start k ≡ at = cc in
-      rw (← q) (of-gate (no-frame-fault .0 ef) (first-gate-fault k eg))
+      let q : record-start (header-of table) k ≡ at = cc in
+      rw (← q) (of-gate (no-frame-fault .0 ef) (first-below-first gates-tested eg))
   picked at none none ef eg e =
-      let p = place-given (end-fits table (header-of table .gates)) (record-start (header-of table .gates)) at e in
+      let p = place-given (end-fits table (header-of table .gates)) (record-start (header-of table) (header-of table .gates)) at e in
       rw (p .1) (of-end (no-frame-fault .0 ef) (gates-fit eg) (fails-told _ (end-told (header-of table .gates)) .0 (p .0)))
 
   placed : {at : ℕ} → Fault table at → table-fault table ≡ some at
   unfolding table-fault
   placed (of-frame {at} f) = rw (frame-told at .1 f) refl
-  placed (of-gate {k} f g) = rw (no-frame-fault .1 f, found-gate k g) refl
+  placed (of-gate {k} f g) = rw (no-frame-fault .1 f, first-first-below gates-tested g) refl
   placed (of-end f all n) =
       rw (no-frame-fault .1 f, gates-none all, fails-told _ (end-told (header-of table .gates)) .1 n) refl
 
   -- 9 at a start: the place found is the start of the first record at fault
   pub fault-told : (at : ℕ) → (table-fault table ≡ some at) ↔ Fault table at
   unfolding table-fault
-  fault-told at = (picked at (frame-fault table) (first-from bad-gate 0 (header-of table .gates)) refl refl, placed)
+  fault-told at = (picked at (frame-fault table) (first-below bad-gate (header-of table .gates)) refl refl, placed)
 
-  none-picked : (frame gates : Option ℕ) → frame-fault table ≡ frame → first-from bad-gate 0 (header-of table .gates) ≡ gates
-      → or-else frame (or-else (starting gates) (end-fault table)) ≡ none → WellFormed table
+  none-picked : (frame gates : Option ℕ) → frame-fault table ≡ frame → first-below bad-gate (header-of table .gates) ≡ gates
+      → or-else frame (or-else (starting (header-of table) gates) (end-fault table)) ≡ none → WellFormed table
   none-picked (some p) gates ef eg e = nought-one (cc)
   none-picked none (some k) ef eg e = nought-one (cc)
   none-picked none none ef eg e =
@@ -230,12 +217,12 @@ module _ (table : List ℕ) where
         header = no-frame-fault .0 ef .header;
         long = no-frame-fault .0 ef .long;
         gates = gates-fit eg;
-        end = end-told (header-of table .gates) .0 (place-not-given _ (record-start (header-of table .gates)) e);
+        end = end-told (header-of table .gates) .0 (place-not-given _ (record-start (header-of table) (header-of table .gates)) e);
       }
 
   pub well-formed-told : (table-fault table ≡ none) ↔ WellFormed table
   unfolding table-fault
   well-formed-told = (
-    none-picked (frame-fault table) (first-from bad-gate 0 (header-of table .gates)) refl refl,
+    none-picked (frame-fault table) (first-below bad-gate (header-of table .gates)) refl refl,
     λ w. rw (no-frame-fault .1 (record { header = w .header; long = w .long }), gates-none (w .gates), end-told (header-of table .gates) .1 (w .end)) refl,
   )

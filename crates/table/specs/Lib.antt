@@ -1,5 +1,5 @@
 pub mod Layout
 pub mod WellFormed
-pub mod Faults
-pub mod Checked
-pub mod Written
+pub mod Shown
+pub mod code
+pub mod twins

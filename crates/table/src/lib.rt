@@ -1,16 +1,22 @@
 // The table's bytes: where each record stands, how it is written, and how a table from anywhere is checked.
 pub mod write;
 
+use terms::FIRST_LABEL;
+use terms::GREATEST_PRIMITIVE;
+use terms::LEAST_LABELS;
 use terms::Label;
+use terms::MOST_LABELS;
+use terms::MOST_LITERALS;
 use terms::Place;
 use terms::Primitive;
 ghost use mathlib.Core.Path.{_≡_};
 ghost use Prim.Native.Nat.{_+_, _*_, _≤_};
 ghost use lib.ListN.{length};
 ghost use Rattle.terms.specs.Terms.{in-range};
-ghost use Rattle.table.specs.Layout.{record-start, table-length, gate-length, end-length};
-ghost use Rattle.table.specs.Faults.{three-in-range};
-ghost use Rattle.table.specs.Checked.{header-fields-fit, gate-kind, entered-right, gate-fields-fit, end-fields-fit, gate-said, end-said, checked-header, checked-gate, checked-end, checked-table};
+ghost use Rattle.table.specs.Layout.{header-length, gate-length, record-start, length-by, table-length, header-of};
+ghost use Rattle.table.specs.Shown.{shown-header, shown-gate, shown-end};
+ghost use Rattle.table.specs.twins.Faults.{three-in-range, header-fields-fit, gate-kind, entered-right, gate-fields-fit, end-fields-fit};
+ghost use Rattle.table.specs.code.Checked.{header-said, coded-gate, coded-end, gate-under, end-under, checked-header, checked-gate, checked-end, checked-table};
 
 // The kinds: a header, a plain gate, a complemented gate, an end.
 pub const H: u8 = 72;
@@ -21,25 +27,15 @@ pub const N: u8 = 78;
 
 pub const E: u8 = 69;
 
-pub const HEADER_LENGTH: usize = 4;
+const HEADER_LENGTH: usize = 4;
 
-pub const GATE_LENGTH: usize = 6;
+const GATE_LENGTH: usize = 6;
 
-pub const END_LENGTH: usize = 3;
+const END_LENGTH: usize = 3;
 
-// What a table may hold at most, and at least.
-const MOST_GATES: u16 = 1024;
-
-const LEAST_LABELS: u8 = 2;
-
-const MOST_LABELS: u8 = 15;
-
-const GREATEST_PRIMITIVE: u16 = 1023;
-
-const FIRST_LABEL: u8 = 0;
-
-// What the header says: the number of gates and the label count.
+// What the header says: its kind, the number of gates and the label count.
 pub struct Header {
+    pub kind: u8,
     pub gates: u16,
     pub labels: u8,
 }
@@ -83,30 +79,56 @@ fn number(low: u8, high: u8) -> u16
     (low as u16) + 256 * (high as u16)
 }
 
-// Where the record of gate k starts; that of the end, where k is the number of gates.
-pub fn record_start(k: Place) -> usize
-    ensures { λ r. ⌜ r ≡ record-start (k .0) ⌝ }
+// How long the record of a gate is under this header.
+fn gate_length(header: Header) -> usize
+    ensures { λ r. ⌜ r ≡ gate-length (shown-header header) ⌝ }
 {
-    GATE_LENGTH * (k.0 as usize) + HEADER_LENGTH
+    GATE_LENGTH
 }
 
-// How long a table of so many gates is.
+// Where the record of gate k starts under this header; that of the end, where k is the number of gates.
+pub fn record_start(header: Header, k: Place) -> usize
+    ensures { λ r. ⌜ r ≡ record-start (shown-header header) (k .0) ⌝ }
+{
+    let before = k.0 as usize;
+    gate_length(header) * before + HEADER_LENGTH
+}
+
+// Where the record of the end starts.
+pub fn end_start(header: Header) -> usize
+    ensures { λ r. ⌜ r ≡ record-start (shown-header header) (header .gates) ⌝ }
+{
+    record_start(header, Place(header.gates))
+}
+
+// How long a table with this header is.
+pub fn length_by(header: Header) -> usize
+    ensures { λ r. ⌜ r ≡ length-by (shown-header header) ⌝ }
+{
+    end_start(header) + END_LENGTH
+}
+
+// How long the table that is written for so many gates is.
 pub fn table_length(gates: u16) -> usize
     ensures { λ r. ⌜ r ≡ table-length gates ⌝ }
 {
-    record_start(Place(gates)) + END_LENGTH
+    length_by(Header {
+        kind: H,
+        gates,
+        labels: LEAST_LABELS,
+    })
 }
 
-fn header_fits(kind: u8, header: Header) -> bool
-    ensures { λ r. ⌜ r ≡ header-fields-fit kind (header .gates) (header .labels) ⌝ }
+fn header_fits(header: Header) -> bool
+    ensures { λ r. ⌜ r ≡ header-fields-fit (shown-header header) ⌝ }
 {
-    if kind != H {
+    if header.kind != H {
         return false;
     }
     if header.gates < 1 {
         return false;
     }
-    if MOST_GATES < header.gates {
+    if MOST_LITERALS < header.gates {
         return false;
     }
     if header.labels < LEAST_LABELS {
@@ -127,7 +149,10 @@ fn kind_fits(kind: u8) -> bool
 fn label_fits(labels: u8, label: Label) -> bool
     ensures { λ r. ⌜ r ≡ in-range labels (label .0) ⌝ }
 {
-    label.0 < labels
+    if label.0 < FIRST_LABEL {
+        return false;
+    }
+    label.0 - FIRST_LABEL < labels
 }
 
 fn labels_fit(labels: u8, own: Label, on_true: Label, on_false: Label) -> bool
@@ -152,9 +177,9 @@ fn entry_fits(k: Place, own: Label) -> bool
     own.0 == FIRST_LABEL
 }
 
-// The record of gate k is right under this label count.
-fn gate_fits(gate: Gate, k: Place, labels: u8) -> bool
-    ensures { λ r. ⌜ r ≡ gate-fields-fit labels (k .0) gate ⌝ }
+// The record of gate k is right under this header.
+fn gate_fits(header: Header, k: Place, gate: Gate) -> bool
+    ensures { λ r. ⌜ r ≡ gate-fields-fit (shown-header header) (k .0) (shown-gate gate) ⌝ }
 {
     let own = gate.own;
     if !kind_fits(gate.kind) {
@@ -163,15 +188,16 @@ fn gate_fits(gate: Gate, k: Place, labels: u8) -> bool
     if GREATEST_PRIMITIVE < gate.primitive.0 {
         return false;
     }
-    if !labels_fit(labels, own, gate.on_true, gate.on_false) {
+    if !labels_fit(header.labels, own, gate.on_true, gate.on_false) {
         return false;
     }
     entry_fits(k, own)
 }
 
-fn end_fits(end: End, labels: u8) -> bool
-    ensures { λ r. ⌜ r ≡ end-fields-fit labels end ⌝ }
+fn end_fits(header: Header, end: End) -> bool
+    ensures { λ r. ⌜ r ≡ end-fields-fit (shown-header header) (shown-end end) ⌝ }
 {
+    let labels = header.labels;
     let on_true = end.on_true;
     let on_false = end.on_false;
     if end.kind != E {
@@ -186,11 +212,24 @@ fn end_fits(end: End, labels: u8) -> bool
     on_true.0 != on_false.0
 }
 
-// The gate whose record starts at this place.
-fn gate_at(table: &[u8], at: usize) -> Gate
-    requires { ⌜ at + gate-length ≤ length (now table) ⌝ }
-    ensures { λ r. ⌜ r ≡ gate-said (now (table .entry)) at ⌝ }
+// What a table that holds a header says in it.
+pub fn header_at(table: &[u8]) -> Header
+    requires { ⌜ header-length (header-of (now table)) ≤ length (now table) ⌝ }
+    ensures { λ r. ⌜ r ≡ header-said (now (table .entry)) ⌝ }
 {
+    Header {
+        kind: table[0],
+        gates: number(table[1], table[2]),
+        labels: table[3],
+    }
+}
+
+// What a table that holds the record of gate k says in it.
+pub fn gate_at(table: &[u8], header: Header, k: Place) -> Gate
+    requires { ⌜ record-start (shown-header header) (k .0) + gate-length (shown-header header) ≤ length (now table) ⌝ }
+    ensures { λ r. ⌜ r ≡ coded-gate (gate-under (shown-header header) (now (table .entry)) (k .0)) ⌝ }
+{
+    let at = record_start(header, k);
     Gate {
         kind: table[at],
         primitive: Primitive(number(table[at + 1], table[at + 2])),
@@ -200,11 +239,12 @@ fn gate_at(table: &[u8], at: usize) -> Gate
     }
 }
 
-// The end whose record starts at this place.
-fn end_at(table: &[u8], at: usize) -> End
-    requires { ⌜ at + end-length ≤ length (now table) ⌝ }
-    ensures { λ r. ⌜ r ≡ end-said (now (table .entry)) at ⌝ }
+// What a table that holds its last record says in it.
+pub fn end_at(table: &[u8], header: Header) -> End
+    requires { ⌜ length-by (shown-header header) ≤ length (now table) ⌝ }
+    ensures { λ r. ⌜ r ≡ coded-end (end-under (shown-header header) (now (table .entry))) ⌝ }
 {
+    let at = end_start(header);
     End {
         kind: table[at],
         on_true: Label(table[at + 1]),
@@ -219,45 +259,43 @@ pub fn check_header(table: &[u8]) -> Checked
     if table.len() < HEADER_LENGTH {
         return Checked::Fault(0);
     }
-    let header = Header {
-        gates: number(table[1], table[2]),
-        labels: table[3],
-    };
-    if !header_fits(table[0], header) {
+    let header = header_at(table);
+    if !header_fits(header) {
         return Checked::Fault(0);
     }
-    if table.len() != table_length(header.gates) {
-        return Checked::Fault(0);
+    if table.len() == length_by(header) {
+        return Checked::Fits(header);
     }
-    Checked::Fits(header)
+    Checked::Fault(0)
 }
 
-// The record of gate k, whether or not the rest of the table is right; a record that the table does not hold whole is at fault.
-pub fn check_gate(table: &[u8], k: Place) -> CheckedGate
-    ensures { λ r. ⌜ r ≡ checked-gate (now (table .entry)) (k .0) ⌝ }
+// The record of gate k under this header, whether or not the rest of the table is right; a record that the table does not
+// hold whole is at fault.
+pub fn check_gate(table: &[u8], header: Header, k: Place) -> CheckedGate
+    ensures { λ r. ⌜ r ≡ checked-gate (now (table .entry)) (shown-header header) (k .0) ⌝ }
 {
-    let at = record_start(k);
-    if table.len() < at + GATE_LENGTH {
+    let at = record_start(header, k);
+    if table.len() < at + gate_length(header) {
         return CheckedGate::Fault(at);
     }
-    let gate = gate_at(table, at);
-    if gate_fits(gate, k, table[3]) {
+    let gate = gate_at(table, header, k);
+    if gate_fits(header, k, gate) {
         CheckedGate::Fits(gate)
     } else {
         CheckedGate::Fault(at)
     }
 }
 
-// The last record of a table of n gates, likewise.
-pub fn check_end(table: &[u8], n: Place) -> CheckedEnd
-    ensures { λ r. ⌜ r ≡ checked-end (now (table .entry)) (n .0) ⌝ }
+// The last record, likewise.
+pub fn check_end(table: &[u8], header: Header) -> CheckedEnd
+    ensures { λ r. ⌜ r ≡ checked-end (now (table .entry)) (shown-header header) ⌝ }
 {
-    let at = record_start(n);
+    let at = end_start(header);
     if table.len() < at + END_LENGTH {
         return CheckedEnd::Fault(at);
     }
-    let end = end_at(table, at);
-    if end_fits(end, table[3]) {
+    let end = end_at(table, header);
+    if end_fits(header, end) {
         CheckedEnd::Fits(end)
     } else {
         CheckedEnd::Fault(at)
@@ -275,12 +313,12 @@ pub fn check_table(table: &[u8]) -> Checked
     let gates = header.gates;
     let mut k: u16 = 0;
     while k < gates {
-        if let CheckedGate::Fault(at) = check_gate(table, Place(k)) {
+        if let CheckedGate::Fault(at) = check_gate(table, header, Place(k)) {
             return Checked::Fault(at);
         }
         k += 1;
     }
-    match check_end(table, Place(gates)) {
+    match check_end(table, header) {
         CheckedEnd::Fault(at) => Checked::Fault(at),
         CheckedEnd::Fits(_) => Checked::Fits(header),
     }

@@ -1,13 +1,17 @@
 -- `table::check_end` meets its contract.
--- It is right since the record is read where the table holds it whole, and judged under the table's own label count.
+-- It is right since the record is read where the table holds it whole, and judged under the header that was handed in.
 -- Assumes nothing.
-use Rattle.table.proofs.Checking.{end-cut-off, end-right, end-wrong}
+use Rattle.table.specs.Shown.{shown-header, shown-end}
+use Rattle.table.specs.twins.Faults.{end-fields-fit}
+use Rattle.table.specs.code.Checked.{coded-end, end-under}
+use Rattle.table.specs.declared.CheckedEnd.{CheckedEnd}
+use Rattle.table.proofs.Checking.{cut-off, fitting, faulty}
 use borrow.Author.Needs.{needs}
 use Rattle.table.proofs.check_end.Statement.{statement}
 use Rattle.table.proofs.check_end.Tie as tie
 
-record-start-requires : tie.Need-record-start-requires
-record-start-requires c κs = search needs
+end-start-requires : tie.Need-end-start-requires
+end-start-requires c κs = search needs
 
 add-if1 : tie.Need-add-if1
 add-if1 c = search needs
@@ -16,13 +20,11 @@ returns : tie.Need-returns
 returns c =
     let r = c .before in
     let s = r .before .before in
-    end-cut-off (s .args .table .now) (s .args .n .0) _ (r .record-start .ensures) (c .if1 .taken)
+    cut-off CheckedEnd.Fits CheckedEnd.Fault (s .args .table .now) _ _ (λ e. end-fields-fit (shown-header (s .args .header)) (shown-end e)) (coded-end (end-under (shown-header (s .args .header)) (s .args .table .now))) _
+    (r .end-start .ensures) (c .if1 .taken)
 
 end-at-requires : tie.Need-end-at-requires
 end-at-requires c κs = search needs
-
-shared-slice-read-end-fits : tie.Need-shared-slice-read-end-fits
-shared-slice-read-end-fits c = search needs
 
 end-fits-requires : tie.Need-end-fits-requires
 end-fits-requires c κs = search needs
@@ -30,30 +32,29 @@ end-fits-requires c κs = search needs
 returns-2 : tie.Need-returns-2
 returns-2 c =
     let f = c .before in
-    let g = f .before .before in
+    let g = f .before in
     let r = g .before .before in
     let s = r .before .before in
-    end-right (s .args .table .now) (s .args .n .0) _ (r .record-start .ensures) _ _ (g .before .if1 .left)
-    (g .end-at .ensures) (f .end-fits .ensures) (c .if2 .taken)
+    fitting CheckedEnd.Fits CheckedEnd.Fault (s .args .table .now) _ _ (λ e. end-fields-fit (shown-header (s .args .header)) (shown-end e)) _ _
+    (r .end-start .ensures) (g .before .if1 .left) _ (g .end-at .ensures) _ (f .end-fits .ensures) (c .if2 .taken)
 
 returns-3 : tie.Need-returns-3
 returns-3 c =
     let f = c .before in
-    let g = f .before .before in
+    let g = f .before in
     let r = g .before .before in
     let s = r .before .before in
-    end-wrong (s .args .table .now) (s .args .n .0) _ (r .record-start .ensures) _ _ (g .before .if1 .left)
-    (g .end-at .ensures) (f .end-fits .ensures) (c .if2 .left)
+    faulty CheckedEnd.Fits CheckedEnd.Fault (s .args .table .now) _ _ (λ e. end-fields-fit (shown-header (s .args .header)) (shown-end e)) _ _
+    (r .end-start .ensures) (g .before .if1 .left) _ (g .end-at .ensures) _ (f .end-fits .ensures) (c .if2 .left)
 
 pub check-end-spec : {M : Type 1} → statement M
 check-end-spec =
     tie.close
     (tie.spec
-    record-start-requires
+    end-start-requires
     add-if1
     returns
     end-at-requires
-    shared-slice-read-end-fits
     end-fits-requires
     returns-2
     returns-3)

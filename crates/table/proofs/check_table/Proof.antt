@@ -4,7 +4,7 @@
 -- Assumes nothing.
 use borrow.Author.Count.{below-more}
 use Rattle.table.proofs.Whole.{frame-first, header-fault, header-right, gate-stops, gate-goes, end-stops, end-goes}
-use Rattle.table.specs.Faults.{gate-fits}
+use Rattle.table.specs.twins.Faults.{gate-fits}
 use mathlib.Core.Bool.{true}
 use borrow.Author.Needs.{needs}
 use native.Mathlib.Omega.{arith}
@@ -14,7 +14,7 @@ use Rattle.table.proofs.check_table.Statement.{statement}
 use Rattle.table.proofs.check_table.Tie as tie
 
 abbrev Inv-loop : tie.InvT-loop
-Inv-loop table header gates k₀ k = (k ≤ gates) × ((j : ℕ) → j < k → gate-fits table j ≡ true)
+Inv-loop table header gates k₀ k = ((j : ℕ) → j < k → gate-fits table j ≡ true) × (k ≤ gates)
 
 abbrev μ-loop : tie.MeasureT-loop
 μ-loop table header gates k₀ k = gates - k
@@ -36,7 +36,7 @@ enum-known-header : tie.Need-enum-known-header Inv-loop μ-loop
 enum-known-header c = search needs
 
 loop-holds : tie.Need-loop-holds Inv-loop μ-loop
-loop-holds c = (search needs, λ j l. absurd (omega arith))
+loop-holds c = (λ j l. absurd (omega arith), search needs)
 
 check-gate-requires : tie.Need-check-gate-requires Inv-loop μ-loop
 check-gate-requires c κs = search needs
@@ -52,7 +52,7 @@ returns-2 c =
     let f = h .before .before in
     let s = f .before .before in
     gate-stops (s .args .table .now) _ (header-right (s .args .table .now) _ (f .check-header .ensures) _ (h .header .given .1))
-    _ (l .loop .inv .1) (g .before .loop-test .taken) _ (g .check-gate .ensures) _ (c .before .at2 .given .1)
+    _ (l .loop .inv .0) (g .before .loop-test .taken) _ (g .check-gate .ensures) _ (c .before .at2 .given .1)
 
 enum-told : tie.Need-enum-told Inv-loop μ-loop
 enum-told c = search needs
@@ -72,7 +72,7 @@ loop-again c =
     let s = f .before .before in
     let fits = gate-goes (s .args .table .now) _ (header-right (s .args .table .now) _ (f .check-header .ensures) _ (h .header .given .1))
     _ (g .before .loop-test .taken) _ (g .check-gate .ensures) _ (c .enum-told .given .1) in
-    (search needs, below-more _ _ (l .loop .inv .1) fits)
+    (below-more _ _ (l .loop .inv .0) fits, search needs)
 
 check-end-requires : tie.Need-check-end-requires Inv-loop μ-loop
 check-end-requires c κs = search needs
@@ -91,7 +91,7 @@ returns-3 c =
     let f = h .before .before in
     let s = f .before .before in
     end-stops (s .args .table .now) _ (header-right (s .args .table .now) _ (f .check-header .ensures) _ (h .header .given .1))
-    _ (l .loop .inv .1) (e .before .loop-test .left) _ (e .check-end .ensures) _ (c .before .at3 .given .1)
+    _ (l .loop .inv .0) (e .before .loop-test .left) _ (e .check-end .ensures) _ (c .before .at3 .given .1)
 
 returns-4 : tie.Need-returns-4 Inv-loop μ-loop
 returns-4 c =
@@ -101,7 +101,7 @@ returns-4 c =
     let f = h .before .before in
     let s = f .before .before in
     end-goes (s .args .table .now) _ (header-right (s .args .table .now) _ (f .check-header .ensures) _ (h .header .given .1))
-    _ (l .loop .inv .1) (e .before .loop-test .left) _ (e .check-end .ensures) _ (c .enum-told2 .given .1)
+    _ (l .loop .inv .0) (e .before .loop-test .left) _ (e .check-end .ensures) _ (c .enum-told2 .given .1)
 
 pub check-table-spec : {M : Type 1} → statement M
 check-table-spec =

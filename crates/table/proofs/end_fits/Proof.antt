@@ -30,9 +30,13 @@ returns-3 c =
 
 returns-4 : tie.Need-returns-4
 returns-4 c =
-    goes _ _ _ (eq-eqb _ _ (c .before .before .before .before .before .before .if1 .left))
-    (goes _ _ _ (asked-yes _ _ (c .before .before .before .before .before .label-fits .ensures) (c .before .before .before .before .if2 .left))
-    (goes _ _ _ (asked-yes _ _ (c .before .before .before .label-fits2 .ensures) (c .before .before .if3 .left)) refl))
+    let at-label-fits2 = c .before .before .before in
+    let at-if2 = at-label-fits2 .before in
+    let at-label-fits = at-if2 .before in
+    let at-if1 = at-label-fits .before in
+    goes _ _ _ (eq-eqb _ _ (at-if1 .if1 .left))
+    (goes _ _ _ (asked-yes _ _ (at-label-fits .label-fits .ensures) (at-if2 .if2 .left))
+    (goes _ _ _ (asked-yes _ _ (at-label-fits2 .label-fits2 .ensures) (c .before .before .if3 .left)) refl))
 
 pub end-fits-spec : {M : Type 1} → statement M
 end-fits-spec =

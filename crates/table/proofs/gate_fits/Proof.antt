@@ -32,8 +32,11 @@ entry-fits-requires c κs = search needs
 
 returns-4 : tie.Need-returns-4
 returns-4 c =
-    goes _ _ _ (asked-yes _ _ (c .before .before .before .before .before .before .kind-fits .ensures) (c .before .before .before .before .before .if1 .left))
-    (goes _ _ _ (le-leb _ _ (c .before .before .before .if2 .left))
+    let at-if2 = c .before .before .before in
+    let at-if1 = at-if2 .before .before in
+    let at-kind-fits = at-if1 .before in
+    goes _ _ _ (asked-yes _ _ (at-kind-fits .kind-fits .ensures) (at-if1 .if1 .left))
+    (goes _ _ _ (le-leb _ _ (at-if2 .if2 .left))
     (goes _ _ _ (asked-yes _ _ (c .before .before .labels-fit .ensures) (c .before .if3 .left)) (c .entry-fits .ensures)))
 
 pub gate-fits-spec : {M : Type 1} → statement M

@@ -1,4 +1,4 @@
--- `kind_byte` tells an odd number, which is a plain literal's, from an even one, as `sense-of` does. Assumes nothing.
+-- `kind_byte` is right since it asks what `plain` asks: whether the sense is 0. Assumes nothing.
 use borrow.Author.Tests.{eq-eqb, ne-eqb}
 use Rattle.table.proofs.write.kind_byte.Statement.{statement}
 use Rattle.table.proofs.write.kind_byte.Tie as tie

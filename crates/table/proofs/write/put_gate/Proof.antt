@@ -1,13 +1,9 @@
--- `put_gate` stores the kind of the literal's sense and the two bytes of its primitive and, behind them, the three labels.
+-- `put_gate` stores the kind of the gate's sense and the two bytes of its primitive and, behind them, the three labels.
 -- Assumes nothing.
 use borrow.Author.Needs.{needs}
-use mathlib.Core.Path.{_∙_}
 use Rattle.table.proofs.WriteBytes.{gate-stored}
 use Rattle.table.proofs.write.put_gate.Statement.{statement}
 use Rattle.table.proofs.write.put_gate.Tie as tie
-
-primitive-of-requires : tie.Need-primitive-of-requires
-primitive-of-requires c κs = search needs
 
 wide-requires : tie.Need-wide-requires
 wide-requires c κs = search needs
@@ -35,17 +31,23 @@ same-length c = search needs
 
 returns : tie.Need-returns
 returns c =
-    gate-stored (c .before .before .before .before .before .before .before .before .before .before .before .before .before .before .args .out .now) _ _ _ _ _ _ _ _ _ _ _ (c .before .before .before .before .before .before .before .before .before .before .kind-byte .ensures) (c .before .before .before .before .before .before .before .before .before .before .before .wide .ensures ∙ c .before .before .before .before .before .before .before .before .before .before .before .before .primitive-of .ensures)
-    (c .before .before .before .before .before .before .before .before .before .low .ensures)
-    (c .before .before .before .before .before .before .before .before .high .ensures)
-    (c .before .before .before .before .before .before .put .ensures)
+    let at-put = c .before .before .before .before .before .before in
+    let at-high = at-put .before .before in
+    let at-low = at-high .before in
+    let at-kind-byte = at-low .before in
+    let at-wide = at-kind-byte .before in
+    let at-before = at-wide .before in
+    let s = at-before .before in
+    gate-stored (s .args .out .now) _ _ _ (s .args .primitive .0) (s .args .sense) _ _ _ _ _ _ _ (at-kind-byte .kind-byte .ensures) (at-wide .wide .ensures)
+    (at-low .low .ensures)
+    (at-high .high .ensures)
+    (at-put .put .ensures)
     (c .before .before .put2 .ensures)
 
 pub put-gate-spec : {M : Type 1} → statement M
 put-gate-spec =
     tie.close
     (tie.spec
-    primitive-of-requires
     wide-requires
     kind-byte-requires
     low-requires
