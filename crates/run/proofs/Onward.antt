@@ -7,17 +7,18 @@ use mathlib.Core.List.{List}
 use borrow.Author.Tests.{lt-ltb, eq-eqb}
 use Rattle.terms.specs.Terms.{Label, first-label}
 use Rattle.terms.specs.Answer.{result}
-use Rattle.table.specs.Layout.{header-of, end-of}
+use Rattle.table.specs.Layout.{header-of, gate-of, end-of}
 use Rattle.table.specs.WellFormed.{WellFormed}
 use Rattle.table.proofs.Tested.{no-frame-fault, gate-told, end-told, well-formed-told}
-use Rattle.run.specs.Run.{Run, started, fed, stepped, answered, ended}
+use Rattle.run.specs.Run.{Run, stepped}
+use Rattle.run.specs.twins.Answers.{started, fed, answered, ended}
 
 module _ (table : List ℕ) (w : WellFormed table) where
   pub starts : started table ≡ result (record { gate = 0; label = first-label })
   unfolding started
   starts = rw (well-formed-told table .1 w) refl
 
-  pub moves : (r : Run) (truth : Bool) → r .gate < header-of table .gates → fed r table truth ≡ result (stepped r table truth)
+  pub moves : (r : Run) (truth : Bool) → r .gate < header-of table .gates → fed r table truth ≡ result (stepped r (gate-of table (r .gate)) truth)
   unfolding fed
   moves r truth l =
       rw (
