@@ -1,10 +1,9 @@
 -- Two right answers for the same text and buffer are the same, buffer and all, since both are what the definitions give.
 -- Assumes nothing.
 use Prim.Native.Nat.{ℕ}
-use mathlib.Core.Path.{_≡_, refl, sym, _∙_}
+use mathlib.Core.Path.{_≡_, sym, _∙_}
 use mathlib.Core.List.{List}
 use native.Mathlib.Omega.{arith}
-use Rattle.terms.specs.Answer.{Answer, result, refused}
 use Rattle.compiler.specs.declared.Compiled.{Compiled}
 use Rattle.compiler.specs.Shown.{shown-compiled, CompiledRight}
 

@@ -1,11 +1,8 @@
 pub mod Bytes
-pub mod Counts
-pub mod GapCosts
-pub mod Gaps
 pub mod Refusals
 pub mod Tables
+pub mod Formed
 pub mod Conform
-pub mod LabelCount
 pub mod Lists
 pub mod Weaving
 pub mod Sites

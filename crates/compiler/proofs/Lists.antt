@@ -1,62 +1,52 @@
--- What four lists of a weave's gates say is what its records say, so the table written from the lists is the table of the weave.
+-- What five lists of a weave's gates say is what its records say, so the table written from the lists is the table of the weave.
 -- Assumes nothing.
-use Prim.Native.Nat.{ℕ, zero, suc, _+_, _*_, _-_, _/_, _%_, _≤_, _<_}
-use mathlib.Core.Path.{_≡_, refl, sym, ap, ap₂, _∙_, subst}
+use Prim.Native.Nat.{ℕ, zero, suc, _+_, _≤_, _<_}
+use mathlib.Core.Path.{_≡_, refl, ap, ap₂, _∙_, subst}
 use mathlib.Core.Bool.{Bool, true, false}
 use mathlib.Core.List.{List, [], _∷_, _++_, map}
 use native.Mathlib.Nat.{add-zero, not-suc-le-zero}
 use native.Mathlib.Omega.{arith}
-use lib.Dec.{eqb}
 use lib.ListN.{length, getD, length-map, List·getD-append, drop}
 use lib.Seq.{sets, sets-eq}
-use borrow.Author.Tests.{eq-eqb, ne-eqb}
-use Rattle.formula.specs.Formula.{Literal}
-use Rattle.formula.specs.Held.{literal-number}
+use Rattle.weaving.specs.code.Laid.{sense-byte}
 use Rattle.weaving.specs.Labels.{GateRecord, Woven}
-use Rattle.table.specs.Layout.{gate-bytes, header-bytes, end-bytes}
-use Rattle.table.specs.Written.{sense-of, primitive-of, number-bytes, gate-records, table-bytes}
+use Rattle.table.specs.Layout.{header-bytes, end-bytes}
+use Rattle.table.specs.code.Written.{plain, record-at, gate-records, table-bytes}
 use Rattle.compiler.specs.Compiled.{record-bytes, all-records, table-of}
 use Rattle.compiler.proofs.Bytes.{no-record}
 
--- a literal's number and what it stands for
-sense-number : (p : ℕ) (s : Bool) → sense-of (literal-number p s) ≡ s
-sense-number p true = eq-eqb ((2 * p + 3) % 2) 1 (omega arith)
-sense-number p false = ne-eqb ((2 * p + 2) % 2) 1 (λ h. omega arith)
+-- a sense's byte and what it stands for
+plain-sense : (sense : Bool) → plain (sense-byte sense) ≡ sense
+plain-sense true = refl
+plain-sense false = refl
 
-primitive-number : (p : ℕ) (s : Bool) → primitive-of (literal-number p s) ≡ p
-primitive-number p true = omega arith
-primitive-number p false = omega arith
-
-abbrev pub record-number : GateRecord → ℕ
-record-number r = literal-number (r .literal .primitive) (r .literal .sense)
-
--- the four lists say of place k what the record says
-pub record Says (ns os ts fs : List ℕ) (k : ℕ) (r : GateRecord) : Type 0 where
-  pub number : getD ns k 0 ≡ record-number r
+-- the five lists say of place k what the record says
+pub record Says (ps qs os ts fs : List ℕ) (k : ℕ) (r : GateRecord) : Type 0 where
+  pub primitive : getD ps k 0 ≡ r .literal .primitive
+  pub sense : getD qs k 0 ≡ sense-byte (r .literal .sense)
   pub own : getD os k 0 ≡ r .own
   pub on-true : getD ts k 0 ≡ r .on-true
   pub on-false : getD fs k 0 ≡ r .on-false
 
-said-bytes : (ns os ts fs : List ℕ) (k : ℕ) (r : GateRecord) → Says ns os ts fs k r
-    → number-bytes (getD ns k 0) (getD os k 0) (getD ts k 0) (getD fs k 0) ≡ record-bytes r
-said-bytes ns os ts fs k r says =
-    rw (says .number, says .own, says .on-true, says .on-false, sense-number (r .literal .primitive) (r .literal .sense), primitive-number (r .literal .primitive) (r .literal .sense))
+said-bytes : (ps qs os ts fs : List ℕ) (k : ℕ) (r : GateRecord) → Says ps qs os ts fs k r → record-at ps qs os ts fs k ≡ record-bytes r
+said-bytes ps qs os ts fs k r says =
+    rw (says .primitive, says .sense, says .own, says .on-true, says .on-false, plain-sense (r .literal .sense))
 
-said-records : (rs : List GateRecord) (ns os ts fs : List ℕ) (k : ℕ) → ((j : ℕ) → j < length rs → Says ns os ts fs (k + j) (getD rs j no-record))
-    → gate-records ns os ts fs k (length rs) ≡ all-records rs
+said-records : (rs : List GateRecord) (ps qs os ts fs : List ℕ) (k : ℕ) → ((j : ℕ) → j < length rs → Says ps qs os ts fs (k + j) (getD rs j no-record))
+    → gate-records ps qs os ts fs k (length rs) ≡ all-records rs
 unfolding gate-records all-records
-said-records [] ns os ts fs k says = refl
-said-records (r ∷ rs) ns os ts fs k says =
+said-records [] ps qs os ts fs k says = refl
+said-records (r ∷ rs) ps qs os ts fs k says =
     ap₂ _++_
-    (said-bytes ns os ts fs k r (subst (λ (i : ℕ). Says ns os ts fs i r) (add-zero k) (says 0 (omega arith))))
-    (said-records rs ns os ts fs (suc k) (λ j h. subst (λ (i : ℕ). Says ns os ts fs i (getD rs j no-record)) (omega arith) (says (suc j) (omega arith))))
+    (said-bytes ps qs os ts fs k r (subst (λ (i : ℕ). Says ps qs os ts fs i r) (add-zero k) (says 0 (omega arith))))
+    (said-records rs ps qs os ts fs (suc k) (λ j h. subst (λ (i : ℕ). Says ps qs os ts fs i (getD rs j no-record)) (omega arith) (says (suc j) (omega arith))))
 
-pub table-said : (w : Woven) (ns os ts fs : List ℕ) → ((j : ℕ) → j < length (w .gate-records) → Says ns os ts fs j (getD (w .gate-records) j no-record))
-    → table-bytes (length (w .gate-records)) (w .label-count) ns os ts fs (w .true-label) (w .false-label) ≡ table-of w
+pub table-said : (w : Woven) (ps qs os ts fs : List ℕ) → ((j : ℕ) → j < length (w .gate-records) → Says ps qs os ts fs j (getD (w .gate-records) j no-record))
+    → table-bytes (length (w .gate-records)) (w .label-count) ps qs os ts fs (w .true-label) (w .false-label) ≡ table-of w
 unfolding table-bytes table-of
-table-said w ns os ts fs says =
+table-said w ps qs os ts fs says =
     ap (λ (l : List ℕ). header-bytes (length (w .gate-records)) (w .label-count) ++ (l ++ end-bytes (w .true-label) (w .false-label)))
-    (said-records (w .gate-records) ns os ts fs 0 (λ j h. subst (λ (i : ℕ). Says ns os ts fs i (getD (w .gate-records) j no-record)) (omega arith) (says j h)))
+    (said-records (w .gate-records) ps qs os ts fs 0 (λ j h. subst (λ (i : ℕ). Says ps qs os ts fs i (getD (w .gate-records) j no-record)) (omega arith) (says j h)))
 
 pub mapped-below : {A : Type 0} (f : A → ℕ) (rs : List A) (d : A) (j : ℕ) → j < length rs → getD (map f rs) j 0 ≡ f (getD rs j d)
 mapped-below f [] d j h = absurd (not-suc-le-zero h)

@@ -1,158 +1,112 @@
 -- Compiling refuses by the first row that holds, at its place, and else answers the table: reading decides rows 1 to 6, and two
 -- tests on numbers decide rows 7 and 8. Assumes nothing.
-use Prim.Native.Nat.{ℕ, suc, _≤_, _<_}
+use Prim.Native.Nat.{ℕ, _≤_, _<_}
 use mathlib.Core.Path.{_≡_, refl, sym, ap, _∙_, subst}
-use mathlib.Core.Logic.{_↔_}
-use mathlib.Core.Bool.{Bool, true, false}
-use mathlib.Core.List.{List}
+use mathlib.Core.Logic.{_⊎_, inl, inr, _↔_}
+use mathlib.Core.List.{List, []}
 use native.Mathlib.Omega.{arith}
-use native.Mathlib.Decide.{decLe}
 use lib.Dec.{ltb}
-use borrow.Author.Tests.{ltb-true, ltb-false}
+use borrow.Author.Tests.{ltb-true, lt-ltb}
 use Rattle.terms.specs.Terms.{most-labels}
-use Rattle.terms.specs.Answer.{Answer, result, refused, refuse, on-result}
+use Rattle.terms.specs.Answer.{Answer, result, refused}
 use Rattle.terms.specs.First.{where-so}
-use Rattle.formula.specs.Formula.{Expr, literals}
+use Rattle.terms.specs.Rows.{FirstOf, NoneOf}
+use Rattle.terms.proofs.Rows.{Decides, where-so-decides, Says, refuses, refuse-says, result-says, on-result-says, OnePlace, one-place-behind, none-parts, none-first, first-parts, EachNumber, first-number, refused-by-first, result-by-none}
+use Rattle.formula.specs.Formula.{literals}
 use Rattle.formula.specs.Typed.{Typed, positive}
-use Rattle.text.specs.Grammar.{Derives}
-use Rattle.text.specs.Rows.{TextRow}
-use Rattle.text.specs.Reading.{typed-reading, reading}
-use Rattle.text.proofs.Complete.{derives-unique}
-use Rattle.text.proofs.Refusals.{NoRow, TextRefusing, Answers, row-range, row-unique, typed-reading-answers}
+use Rattle.grammar.specs.Grammar.{Derives}
+use Rattle.grammar.specs.Rows.{text-rows}
+use Rattle.grammar.proofs.Complete.{derives-unique}
+use Rattle.grammar.proofs.Refusals.{reading-says, text-rows-one-place, text-rows-numbered}
 use Rattle.turning.specs.Turning.{marks, turned}
-use Rattle.weaving.specs.Labels.{Woven, weave}
+use Rattle.weaving.specs.Labels.{weave}
 use Rattle.table.specs.Layout.{table-length}
-use Rattle.compiler.specs.Compiled.{table-of, finished, compiled}
-use Rattle.compiler.specs.Rows.{TooManyLabels, TooLittleRoom, Row, of-text, row-7, row-8, Refusing}
+use Rattle.compiler.specs.Compiled.{table-of}
+use Rattle.compiler.specs.twins.Compiling.{finished, compiled}
+use Rattle.compiler.specs.Rows.{TooManyLabels, TooLittleRoom, table-rows, compile-rows, TableMeant}
 
--- the table of what a text means
-abbrev pub table-meant : Typed → List ℕ
-table-meant e = table-of (weave (turned (positive 0 e)))
+-- how long the table of e is, and how many labels it needs
+abbrev length-for : Typed → ℕ
+length-for e = table-length (literals (positive 0 e))
 
--- no row before r holds anywhere
-abbrev NoRowBefore : List ℕ → ℕ → ℕ → Type 0
-NoRowBefore text room r = (q p : ℕ) → q < r → ¬ Row text room q p
+abbrev labels-for : Typed → ℕ
+labels-for e = weave (turned (positive 0 e)) .label-count
 
--- the text means e, no row holds, and the table is that of e
-pub record Answered (text : List ℕ) (room : ℕ) (table : List ℕ) : Type 0 where
-  pub meaning : Typed
-  pub derives : Derives text meaning
-  pub no-row : (r p : ℕ) → ¬ Row text room r p
-  pub table-is : table ≡ table-meant meaning
+-- rows 7 and 8 over a text that derives e
+module _ {text : List ℕ} {e : Typed} (derives : Derives text e) where
+  too-many-labels-decides : Decides (TooManyLabels text) (where-so (ltb most-labels (labels-for e)) 0)
+  too-many-labels-decides =
+      where-so-decides (ltb most-labels (labels-for e)) 0
+      (λ is. record { meaning = e; derives = derives; many = ltb-true most-labels (labels-for e) is; place = refl })
+      λ p row.
+      (lt-ltb most-labels (labels-for e) (subst (λ x. most-labels < labels-for x) (derives-unique (row .derives) derives) (row .many)), row .place)
 
--- what each answer says
-abbrev pub Says : List ℕ → ℕ → Answer (List ℕ) → Type 0
-Says text room (result table) = Answered text room table
-Says text room (refused r at) = Refusing text room r at
+  too-little-room-decides : (room : ℕ) → Decides (TooLittleRoom text room) (where-so (ltb room (length-for e)) (length-for e))
+  too-little-room-decides room =
+      where-so-decides (ltb room (length-for e)) (length-for e)
+      (λ is. record { meaning = e; derives = derives; place = refl; little = ltb-true room (length-for e) is })
+      λ p row.
+      let place : p ≡ length-for e = row .place ∙ ap length-for (derives-unique (row .derives) derives) in
+      (lt-ltb room (length-for e) (omega (arith, row .little)), place)
 
-row-most : {text : List ℕ} {room r p : ℕ} → Row text room r p → r < 9
-row-most (of-text row) = omega (arith, row-range row .1)
-row-most (row-7 row) = omega arith
-row-most (row-8 row) = omega arith
-
--- a row with a number up to 6 is one of the text's
-text-row : {text : List ℕ} {room r p : ℕ} → r < 7 → Row text room r p → TextRow text r p
-text-row h (of-text row) = row
-text-row h (row-7 row) = absurd (omega arith)
-text-row h (row-8 row) = absurd (omega arith)
-
-only-7 : {text : List ℕ} {room p : ℕ} → Row text room 7 p → TooManyLabels text p
-only-7 (of-text row) = absurd (omega (arith, row-range row .1))
-only-7 (row-7 row) = row
-
-only-8 : {text : List ℕ} {room p : ℕ} → Row text room 8 p → TooLittleRoom text room p
-only-8 (of-text row) = absurd (omega (arith, row-range row .1))
-only-8 (row-8 row) = row
-
-no-row-before-next : {text : List ℕ} {room r : ℕ} → NoRowBefore text room r → ((p : ℕ) → ¬ Row text room r p) → NoRowBefore text room (suc r)
-no-row-before-next {text} {room} {r} before here q p h row =
-    elim (decLe r q) [
-      | yes k ↦ let same : q ≡ r = omega arith in here p (subst (λ (i : ℕ). Row text room i p) same row)
-      | no k ↦ before q p (omega arith) row
-    ]
-
--- rows 7 and 8 over a text that means e and has none of rows 1 to 6
-module _ (text : List ℕ) (room : ℕ) (e : Typed) (derives : Derives text e) where
-  says-room : (b : Bool) → ltb room (table-length (literals (positive 0 e))) ≡ b → NoRowBefore text room 8
-      → Says text room (refuse 8 (where-so b (table-length (literals (positive 0 e)))) (result (table-meant e)))
-  says-room true is before =
-      record { holds = row-8 (record { meaning = e; derives = derives; place = refl; little = ltb-true _ _ is }); no-earlier = before }
-  says-room false is before =
-      record {
-        meaning = e;
-        derives = derives;
-        no-row = λ r p row. no-row-before-next before no-8 r p (row-most row) row;
-        table-is = refl;
-      }
-    where
-      no-8 : (p : ℕ) → ¬ Row text room 8 p
-      no-8 p row =
-          let found = only-8 row in
-          let same : found .meaning ≡ e = derives-unique (found .derives) derives in
-          let place : p ≡ table-length (literals (positive 0 e)) = found .place ∙ ap (λ x. table-length (literals (positive 0 x))) same in
-          omega (arith, found .little, ltb-false room (table-length (literals (positive 0 e))) is)
-
-  says-labels : (b : Bool) → ltb most-labels (weave (turned (positive 0 e)) .label-count) ≡ b → NoRowBefore text room 7
-      → Says text room (refuse 7 (where-so b 0) (refuse 8 (where-so (ltb room (table-length (literals (positive 0 e)))) (table-length (literals (positive 0 e)))) (result (table-meant e))))
-  says-labels true is before =
-      record { holds = row-7 (record { meaning = e; derives = derives; many = ltb-true _ _ is; place = refl }); no-earlier = before }
-  says-labels false is before = says-room (ltb room (table-length (literals (positive 0 e)))) refl (no-row-before-next before no-7)
-    where
-      no-7 : (p : ℕ) → ¬ Row text room 7 p
-      no-7 p row =
-          let found = only-7 row in
-          let many = subst (λ x. most-labels < weave (turned (positive 0 x)) .label-count) (derives-unique (found .derives) derives) (found .many) in
-          omega (arith, ltb-false most-labels (weave (turned (positive 0 e)) .label-count) is)
-
-  says-finished : NoRow text → Says text room (finished (positive 0 e) (marks (positive 0 e)) room)
+  finished-says : (room : ℕ) → Says (table-rows text room) (TableMeant text) (finished (positive 0 e) (marks (positive 0 e)) room)
   unfolding finished turned
-  says-finished nowhere =
-      says-labels (ltb most-labels (weave (turned (positive 0 e)) .label-count)) refl (λ q p h row. nowhere q p (text-row h row))
+  finished-says room =
+      refuse-says 7 (TooManyLabels text) _ _ _ too-many-labels-decides λ _.
+      refuse-says 8 (TooLittleRoom text room) [] _ _ (too-little-room-decides room) λ _.
+      result-says (record { meaning = e; derives = derives; table-is = refl })
 
-says-reading : (text : List ℕ) (room : ℕ) (a : Answer Typed) → Answers text a
-    → Says text room (on-result (on-result a (λ e. result (positive 0 e))) (λ e. finished e (marks e) room))
-says-reading text room (result e) says = says-finished text room e (says .0) (says .1)
-says-reading text room (refused r p) says =
-    record {
-      holds = of-text (says .holds);
-      no-earlier = λ q p h row. says .no-earlier q p h (text-row (omega (arith, row-range (says .holds) .1)) row);
-    }
+pub compiled-says : (text : List ℕ) (room : ℕ) → Says (compile-rows text room) (TableMeant text) (compiled text room)
+unfolding compiled
+compiled-says text room =
+    on-result-says (text-rows text) (table-rows text room) (λ form. finished form (marks form) room) (reading-says text)
+    λ form meant. rw (meant .form-is) (finished-says (meant .derives) room)
 
-pub compiled-says : (text : List ℕ) (room : ℕ) → Says text room (compiled text room)
-unfolding compiled reading
-compiled-says text room = says-reading text room (typed-reading text) (typed-reading-answers text)
+pub compile-rows-one-place : (text : List ℕ) (room : ℕ) → OnePlace (compile-rows text room)
+unfolding OnePlace
+compile-rows-one-place text room =
+    one-place-behind (text-rows text) (table-rows text room) (text-rows-one-place text) (
+      λ p q a b. a .place ∙ sym (b .place),
+      (λ p q a b. a .place ∙ ap length-for (derives-unique (a .derives) (b .derives)) ∙ sym (b .place), tt),
+    )
 
-pub places-unique : {text : List ℕ} {room r p q : ℕ} → Row text room r p → Row text room r q → p ≡ q
-places-unique (of-text a) (of-text b) = row-unique a b
-places-unique (of-text a) (row-7 b) = absurd (omega (arith, row-range a .1))
-places-unique (of-text a) (row-8 b) = absurd (omega (arith, row-range a .1))
-places-unique (row-7 a) (of-text b) = absurd (omega (arith, row-range b .1))
-places-unique (row-7 a) (row-7 b) = a .place ∙ sym (b .place)
-places-unique (row-8 a) (of-text b) = absurd (omega (arith, row-range b .1))
-places-unique (row-8 a) (row-8 b) =
-    a .place ∙ ap (λ x. table-length (literals (positive 0 x))) (derives-unique (a .derives) (b .derives)) ∙ sym (b .place)
+pub table-meant-unique : {text : List ℕ} (s t : List ℕ) → TableMeant text s → TableMeant text t → s ≡ t
+table-meant-unique s t a b =
+    a .table-is ∙ ap (λ e. table-of (weave (turned (positive 0 e)))) (derives-unique (a .derives) (b .derives)) ∙ sym (b .table-is)
 
--- two answers that say what holds are the same
-says-unique : (text : List ℕ) (room : ℕ) (a b : Answer (List ℕ)) → Says text room a → Says text room b → a ≡ b
-says-unique text room (result s) (result t) x y =
-    ap result (x .table-is ∙ ap table-meant (derives-unique (x .derives) (y .derives)) ∙ sym (y .table-is))
-says-unique text room (result s) (refused r p) x y = absurd (x .no-row r p (y .holds))
-says-unique text room (refused r p) (result t) x y = absurd (y .no-row r p (x .holds))
-says-unique text room (refused r p) (refused s q) x y =
-    let not-before : ¬ (r < s) = λ h. y .no-earlier r p h (x .holds) in
-    let not-after : ¬ (s < r) = λ h. x .no-earlier s q h (y .holds) in
-    let same : s ≡ r = omega arith in
-    let place : p ≡ q = places-unique (x .holds) (subst (λ (i : ℕ). Row text room i q) same (y .holds)) in
-    rw (same, place)
+pub compiled-refused-by : (text : List ℕ) (room r at : ℕ) → (compiled text room ≡ refused r at) ↔ FirstOf (compile-rows text room) r at
+compiled-refused-by text room = refused-by-first (compile-rows-one-place text room) (compiled-says text room)
 
-pub compiled-is : (text : List ℕ) (room : ℕ) (a : Answer (List ℕ)) → (compiled text room ≡ a) ↔ Says text room a
-compiled-is text room a =
-    (λ is. subst (Says text room) is (compiled-says text room), says-unique text room (compiled text room) a (compiled-says text room))
+pub compiled-result-by : (text : List ℕ) (room : ℕ) (table : List ℕ) → (compiled text room ≡ result table) ↔ (NoneOf (compile-rows text room) × TableMeant text table)
+compiled-result-by text room = result-by-none table-meant-unique (compiled-says text room)
 
 -- where no row holds, a table is answered
-pub answered-whenever : (text : List ℕ) (room : ℕ) → ((r p : ℕ) → ¬ Row text room r p) → (table : List ℕ) × (compiled text room ≡ result table)
-answered-whenever text room nowhere = go (compiled text room) refl (compiled-says text room)
+pub answered-whenever : (text : List ℕ) (room : ℕ) → NoneOf (compile-rows text room) → (table : List ℕ) × (compiled text room ≡ result table)
+answered-whenever text room clear = go (compiled text room) refl (compiled-says text room)
   where
-    go : (a : Answer (List ℕ)) → compiled text room ≡ a → Says text room a → (table : List ℕ) × (compiled text room ≡ result table)
+    go : (a : Answer (List ℕ)) → compiled text room ≡ a → Says (compile-rows text room) (TableMeant text) a → (table : List ℕ) × (compiled text room ≡ result table)
     go (result table) is says = (table, is)
-    go (refused r p) is says = absurd (nowhere r p (says .holds))
+    go (refused r p) is (refuses first) = absurd (none-first (compile-rows text room) r p clear first)
+
+-- the rows of the text among them, and row 7 behind them
+pub none-of-text : (text : List ℕ) (room : ℕ) → NoneOf (compile-rows text room) → NoneOf (text-rows text)
+none-of-text text room clear = none-parts (text-rows text) (table-rows text room) clear .0
+
+row-7-of-two : (text : List ℕ) (room at : ℕ) → FirstOf (table-rows text room) 7 at → TooManyLabels text at
+unfolding FirstOf
+row-7-of-two text room at (inl here) = here .1
+row-7-of-two text room at (inr (nowhere, inl wrong)) = absurd (omega (arith, wrong .0))
+row-7-of-two text room at (inr (nowhere, inr none)) = absurd (none .1)
+
+pub row-7-first : (text : List ℕ) (room at : ℕ) → FirstOf (compile-rows text room) 7 at → NoneOf (text-rows text) × TooManyLabels text at
+row-7-first text room at first = by-part (first-parts (text-rows text) (table-rows text room) 7 at first)
+  where
+    by-part : FirstOf (text-rows text) 7 at ⊎ (NoneOf (text-rows text) × FirstOf (table-rows text room) 7 at) → NoneOf (text-rows text) × TooManyLabels text at
+    by-part (inl early) = absurd (omega (arith, text-rows-numbered text 7 at early .1))
+    by-part (inr late) = (late .0, row-7-of-two text room at (late .1))
+
+pub compile-rows-numbered : (text : List ℕ) (room r at : ℕ) → FirstOf (compile-rows text room) r at → 1 ≤ r
+unfolding EachNumber
+compile-rows-numbered text room r at =
+    first-number (λ q. 1 ≤ q) (compile-rows text room)
+    (omega arith, (omega arith, (omega arith, (omega arith, (omega arith, (omega arith, (omega arith, (omega arith, tt)))))))) r at

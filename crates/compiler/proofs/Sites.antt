@@ -1,45 +1,44 @@
 -- What the parts of compile ask of each other: an expression of n literals held in slices has room in them. Assumes nothing.
-use Prim.Native.Nat.{ℕ, suc, _+_, _-_, _*_, _≤_, _<_}
-use mathlib.Core.Path.{_≡_, refl, sym, ap, _∙_, subst, subst₂}
+use Prim.Native.Nat.{ℕ, _≤_, _<_}
+use mathlib.Core.Path.{_≡_, sym, ap, _∙_, subst}
 use mathlib.Core.Bool.{Bool, true, false}
 use mathlib.Core.List.{List, _++_}
 use native.Mathlib.Omega.{arith}
 use lib.Dec.{ltb}
 use lib.ListN.{length, drop, length-append, length-drop}
-use lib.Seq.{length-sets}
 use borrow.Author.Tests.{lt-ltb, le-ltb}
 use Rattle.terms.specs.Terms.{most-literals, most-labels}
-use Rattle.terms.specs.Answer.{Answer, result, refused}
 use Rattle.formula.specs.Formula.{Expr, literals}
 use Rattle.formula.specs.Marks.{arranged}
-use Rattle.formula.specs.Held.{Holds, Held}
-use Rattle.formula.specs.Marked.{Marked}
+use Rattle.formula.specs.code.Held.{Holds}
+use Rattle.formula.specs.code.Marked.{Marked}
 use Rattle.formula.proofs.Marks.{literals-some, literals-arranged}
-use Rattle.turning.specs.Tags.{Tag, price, greatest}
-use Rattle.turning.specs.Coded as turning
-use Rattle.weaving.specs.Gates.{gates-from}
-use Rattle.weaving.specs.Labels.{Woven, weave}
-use Rattle.weaving.specs.Laid.{Laid, LaidOut, Roomy}
-use Rattle.weaving.specs.Labelled.{Labelable, LabelledBy, Labelled, Labelling}
+use Rattle.turning.specs.Tags.{Tag, greatest}
+use Rattle.turning.specs.code.Coded as turning
+use Rattle.weaving.specs.Gates.{gates}
+use Rattle.weaving.specs.Labels.{weave}
+use Rattle.weaving.specs.code.Laid.{Laid, LaidOut, Layable}
+use Rattle.weaving.specs.code.Labelled.{Labelable, Labelled, Labelling}
 use Rattle.weaving.specs.declared.label.Ends.{Ends}
 use Rattle.table.specs.Layout.{table-length}
-use Rattle.table.specs.Written.{table-bytes, Room}
+use Rattle.table.specs.code.Written.{table-bytes, Room}
 use Rattle.compiler.specs.declared.Compiled.{Compiled}
-use Rattle.compiler.specs.Compiled.{table-of, finished, written}
-use Rattle.compiler.specs.Finished.{root-of, Site, Marking, Planned, Ready, WovenInto, FinishedAs, FinishedBy}
-use Rattle.compiler.proofs.LabelCount.{label-count-greatest}
+use Rattle.compiler.specs.Compiled.{table-of}
+use Rattle.compiler.specs.twins.Compiling.{finished}
+use Rattle.compiler.specs.code.Finished.{root-of, HeldTree, Marking, Planned, Weavable, WovenInto, FinishedBy}
+use Rattle.widths.proofs.LabelCount.{label-count-greatest}
 use Rattle.compiler.proofs.Bytes.{table-of-length}
 use Rattle.weaving.proofs.Range.{length-gate-records}
 use Rattle.compiler.proofs.Weaving.{labelable, table-woven}
 
-pub site-some : {ks ss : List ℕ} {n : ℕ} → Site ks ss n → (1 ≤ n) × (n ≤ 1024)
-site-some s = (omega (arith, s .count, literals-some (s .tree)), s .few)
+pub tree-some : {ks ss : List ℕ} {n : ℕ} → HeldTree ks ss n → (1 ≤ n) × (n ≤ 1024)
+tree-some s = (omega (arith, s .count, literals-some (s .tree)), s .few)
 
 -- turning and pricing find their expression at the root
-pub turn-site : {ks ss bs : List ℕ} {n i : ℕ} → Site ks ss n → 2047 ≤ length bs → i ≡ root-of n → turning.Site ks ss bs i
-turn-site {ks} {ss} {n = n} {i = i} s room is =
-    let small = site-some s in
-    record { held = record { tree = s .tree; holds = rw is (s .holds) }; within = omega arith; low = omega arith }
+pub turn-site : {ks ss : List ℕ} {n i : ℕ} → HeldTree ks ss n → i ≡ root-of n → turning.Site ks ss i
+turn-site {ks} {ss} {n = n} {i = i} s is =
+    let small = tree-some s in
+    record { held = record { tree = s .tree; holds = rw is (s .holds) }; low = omega arith }
 
 pub turned-planned : {ks ss bs bs′ : List ℕ} {n i : ℕ} {t : Tag} → i ≡ root-of n → turning.Turned ks ss bs bs′ i t → Planned ks ss bs′ n
 turned-planned {ks} {ss} {bs′ = bs′} is turned = record { each = λ e h. rw (sym is) (turned .each e (rw is h) .marked) }
@@ -49,137 +48,99 @@ long-woven : (e : Expr) (ms : List Bool) (n : ℕ) → literals e ≡ n → leng
 long-woven e ms n count =
     table-of-length (weave (arranged ms e)) ∙ ap (λ (k : ℕ). table-length k) (length-gate-records (arranged ms e) ∙ literals-arranged ms e ∙ count)
 
--- laying out finds its expression and room for its gates
-pub lay-roomy : {ks ss bs ns ts fs : List ℕ} {n i : ℕ} → Marking ks ss bs n → i ≡ root-of n → 2047 ≤ length bs → 1024 ≤ length ns
-    → 1024 ≤ length ts → 1024 ≤ length fs → Roomy ks ss bs i 0 ns ts fs
-lay-roomy {ks} {ss} {n = n} m is room-bs room-ns room-ts room-fs =
-    let s = m .site in
-    let small = site-some s in
-    let count = s .count in
+-- laying out finds its expression and its marks
+pub layable : {ks ss bs : List ℕ} {n : ℕ} → Marking ks ss bs n → Layable ks ss bs n
+layable m =
     record {
-      tree = s .tree;
-      holds = rw is (s .holds);
-      marks-long = omega arith;
-      few = omega arith;
-      numbers-long = omega arith;
-      trues-long = omega arith;
-      falses-long = omega arith;
+      tree = m .held .tree;
+      row = m .row;
+      holds = m .held .holds;
+      marked = m .marked;
+      count = m .held .count;
+      few = m .held .few;
     }
 
 -- the lists laid out are those of the arranged expression
-module _ {ks ss bs ns ts fs ns′ ts′ fs′ : List ℕ} {n i t f : ℕ} (is : i ≡ root-of n) (true-is : t ≡ n) (false-is : f ≡ n + 1)
-    (laid : LaidOut ks ss bs i 0 t f ns ts fs ns′ ts′ fs′) (room-ns : 1024 ≤ length ns) (room-ts : 1024 ≤ length ts) (room-fs : 1024 ≤ length fs)
-    (few : n ≤ most-literals) where
+module _ {ks ss bs ps qs ts fs ps′ qs′ ts′ fs′ : List ℕ} {n : ℕ} (laid : LaidOut ks ss bs n ps qs ts fs ps′ qs′ ts′ fs′)
+    (few : n ≤ most-literals) (room-ts : 1024 ≤ length ts′) (room-fs : 1024 ≤ length fs′) where
   module _ (e : Expr) (ms : List Bool) (holds : Holds ks ss (root-of n) e) (marked : Marked bs (root-of n) e ms) (count : literals e ≡ n) where
-    laid-arranged : Laid ns ts fs ns′ ts′ fs′ 0 (gates-from (arranged ms e) 0 n (suc n))
-    laid-arranged =
-        let g : f ≡ suc n = omega arith in
-        subst₂ (λ (a b : ℕ). Laid ns ts fs ns′ ts′ fs′ 0 (gates-from (arranged ms e) 0 a b)) true-is g (laid .each e ms (rw is holds) (rw is marked))
+    laid-arranged : Laid ps qs ts fs ps′ qs′ ts′ fs′ (gates (arranged ms e))
+    laid-arranged = laid .each e ms holds marked count
 
     arranged-count : literals (arranged ms e) ≡ n
     arranged-count = literals-arranged ms e ∙ count
 
     labels-asked : weave (arranged ms e) .label-count ≤ most-labels → Labelable ts′ fs′ n (arranged ms e)
-    labels-asked = labelable (arranged ms e) n arranged-count ns ts fs ns′ ts′ fs′ (omega arith) (omega arith) (omega arith) laid-arranged
+    labels-asked = labelable (arranged ms e) n arranged-count ps qs ts fs ps′ qs′ ts′ fs′ laid-arranged (omega arith) (omega arith)
 
-    -- what labelling and writing then give
-    woven-arranged : (labels : ℕ) (os us vs os′ us′ vs′ : List ℕ) (ends : Ends) → 1024 ≤ length os → 1024 ≤ length us → 1024 ≤ length vs
-        → labels ≤ most-labels → Labelled ts′ fs′ n os us vs os′ us′ vs′ ends → weave (arranged ms e) .label-count ≡ labels
-        → table-bytes n labels ns′ os′ us′ vs′ (ends .«on_true» .0) (ends .«on_false» .0) ≡ table-of (weave (arranged ms e))
-    woven-arranged labels os us vs os′ us′ vs′ ends room-os room-us room-vs low labelled needs =
-        table-woven (arranged ms e) n arranged-count ns ts fs ns′ ts′ fs′ (omega arith) (omega arith) (omega arith) laid-arranged
-        os us vs os′ us′ vs′ (omega arith) (omega arith) (omega arith) ends (labelled .each (arranged ms e) (labels-asked (omega arith))) labels needs
-
-  -- the lists stay as long as they were
-  module _ {labels : ℕ} {out : List ℕ} (r : Ready ks ss bs n labels out) where
-    laid-ready : Laid ns ts fs ns′ ts′ fs′ 0 (gates-from (arranged (r .marking .row) (r .marking .site .tree)) 0 n (suc n))
-    laid-ready = laid-arranged (r .marking .site .tree) (r .marking .row) (r .marking .site .holds) (r .marking .marked) (r .marking .site .count)
-
-    numbers-long : length ns′ ≡ length ns
-    numbers-long = ap length (laid-ready .numbers) ∙ simp length-sets
-
-    trues-long : length ts′ ≡ length ts
-    trues-long = ap length (laid-ready .trues) ∙ simp length-sets
-
-    falses-long : length fs′ ≡ length fs
-    falses-long = ap length (laid-ready .falses) ∙ simp length-sets
-
-    labelable-ready : Labelable ts′ fs′ n (arranged (r .marking .row) (r .marking .site .tree))
+  module _ {labels : ℕ} {out : List ℕ} (r : Weavable ks ss bs n labels out) where
+    labelable-ready : Labelable ts′ fs′ n (arranged (r .marking .row) (r .marking .held .tree))
     labelable-ready =
-        labels-asked (r .marking .site .tree) (r .marking .row) (r .marking .site .holds) (r .marking .marked) (r .marking .site .count)
+        labels-asked (r .marking .held .tree) (r .marking .row) (r .marking .held .holds) (r .marking .marked) (r .marking .held .count)
         (omega (arith, r .needs, r .few-labels))
 
     pub label-ready : {os us vs : List ℕ} → 1024 ≤ length os → 1024 ≤ length us → 1024 ≤ length vs → Labelling ts′ fs′ n os us vs
     label-ready room-os room-us room-vs =
         record {
-          tree = arranged (r .marking .row) (r .marking .site .tree);
+          tree = arranged (r .marking .row) (r .marking .held .tree);
           labelable = labelable-ready;
           few = few;
-          trues-long = omega (arith, trues-long);
-          falses-long = omega (arith, falses-long);
+          trues-long = omega arith;
+          falses-long = omega arith;
           owns-long = omega arith;
           on-trues-long = omega arith;
           on-falses-long = omega arith;
         }
 
-    module _ {os us vs os′ us′ vs′ : List ℕ} {ends : Ends} (room-os : 1024 ≤ length os) (room-us : 1024 ≤ length us) (room-vs : 1024 ≤ length vs)
-        (labelled : Labelled ts′ fs′ n os us vs os′ us′ vs′ ends) where
-      by-ready : LabelledBy (weave (arranged (r .marking .row) (r .marking .site .tree))) os us vs os′ us′ vs′ ends
-      by-ready = labelled .each (arranged (r .marking .row) (r .marking .site .tree)) labelable-ready
+  -- what labelling and writing then give
+  module _ {os us vs os′ us′ vs′ : List ℕ} {ends : Ends} (labelled : Labelled ts′ fs′ n os us vs os′ us′ vs′ ends) (room-ps : 1024 ≤ length ps′)
+      (room-qs : 1024 ≤ length qs′) (room-os : 1024 ≤ length os′) (room-us : 1024 ≤ length us′) (room-vs : 1024 ≤ length vs′) where
+    woven-arranged : (e : Expr) (ms : List Bool) → Holds ks ss (root-of n) e → Marked bs (root-of n) e ms → literals e ≡ n → (labels : ℕ)
+        → labels ≤ most-labels → weave (arranged ms e) .label-count ≡ labels
+        → table-bytes n labels ps′ qs′ os′ us′ vs′ (ends .«on_true» .0) (ends .«on_false» .0) ≡ table-of (weave (arranged ms e))
+    woven-arranged e ms holds marked count labels low needs =
+        table-woven (arranged ms e) n (arranged-count e ms holds marked count) ps qs ts fs ps′ qs′ ts′ fs′ (laid-arranged e ms holds marked count)
+        os us vs os′ us′ vs′ (omega arith) (omega arith) (omega arith) (omega arith) (omega arith) ends
+        (labelled .each (arranged ms e) (labels-asked e ms holds marked count (omega arith))) labels needs
 
-      owns-same : length os′ ≡ length os
-      owns-same = ap length (by-ready .owns) ∙ simp length-sets
+    pub woven-into : {out out′ : List ℕ} {labels : ℕ} → labels ≤ most-labels
+        → out′ ≡ table-bytes n labels ps′ qs′ os′ us′ vs′ (ends .«on_true» .0) (ends .«on_false» .0) ++ drop (table-length n) out
+        → WovenInto ks ss bs n labels out out′
+    woven-into {out} {labels = labels} low is-written =
+        record {
+          each = λ e ms holds marked count needs.
+              is-written
+              ∙ ap (λ (l : List ℕ). l ++ drop (table-length n) out) (woven-arranged e ms holds marked count labels low needs);
+        }
 
-      on-trues-same : length us′ ≡ length us
-      on-trues-same = ap length (by-ready .on-trues) ∙ simp length-sets
+pub write-room : {ks ss bs ps qs os us vs out : List ℕ} {n labels : ℕ} → Weavable ks ss bs n labels out → n ≤ most-literals → 1024 ≤ length ps
+    → 1024 ≤ length qs → 1024 ≤ length os → 1024 ≤ length us → 1024 ≤ length vs → Room out ps qs os us vs n
+write-room r few room-ps room-qs room-os room-us room-vs =
+    record {
+      few = few;
+      out-long = r .room;
+      primitives-long = omega arith;
+      senses-long = omega arith;
+      owns-long = omega arith;
+      on-trues-long = omega arith;
+      on-falses-long = omega arith;
+    }
 
-      on-falses-same : length vs′ ≡ length vs
-      on-falses-same = ap length (by-ready .on-falses) ∙ simp length-sets
-
-      pub write-room : Room out ns′ os′ us′ vs′ n
-      write-room =
-          record {
-            out-long = r .room;
-            numbers-long = omega (arith, numbers-long);
-            owns-long = omega (arith, owns-same);
-            on-trues-long = omega (arith, on-trues-same);
-            on-falses-long = omega (arith, on-falses-same);
-          }
-
-      bytes-long : length (table-bytes n labels ns′ os′ us′ vs′ (ends .«on_true» .0) (ends .«on_false» .0)) ≡ table-length n
-      bytes-long =
-          let e = r .marking .site .tree in
-          let ms = r .marking .row in
-          ap length
-          (woven-arranged e ms (r .marking .site .holds) (r .marking .marked) (r .marking .site .count) labels os us vs os′ us′ vs′ ends
-          room-os room-us room-vs (r .few-labels) labelled (r .needs))
-          ∙ long-woven e ms n (r .marking .site .count)
-
-      pub same-long : {out′ : List ℕ}
-          → out′ ≡ table-bytes n labels ns′ os′ us′ vs′ (ends .«on_true» .0) (ends .«on_false» .0) ++ drop (table-length n) out
-          → length out′ ≡ length out
-      same-long is =
-          ap length is
-          ∙ length-append (table-bytes n labels ns′ os′ us′ vs′ (ends .«on_true» .0) (ends .«on_false» .0)) (drop (table-length n) out)
-          ∙ rw (bytes-long, length-drop (table-length n) out) (omega (arith, r .room))
-
-  pub woven-into : {os us vs os′ us′ vs′ out out′ : List ℕ} {labels : ℕ} {ends : Ends} → 1024 ≤ length os → 1024 ≤ length us → 1024 ≤ length vs
-      → labels ≤ most-labels → Labelled ts′ fs′ n os us vs os′ us′ vs′ ends
-      → out′ ≡ table-bytes n labels ns′ os′ us′ vs′ (ends .«on_true» .0) (ends .«on_false» .0) ++ drop (table-length n) out
-      → WovenInto ks ss bs n labels out out′
-  woven-into {os} {us} {vs} {os′} {us′} {vs′} {out} {out′} {labels} {ends} room-os room-us room-vs low labelled is-written =
-      record {
-        each = λ e ms holds marked count needs.
-            is-written
-            ∙ ap (λ (l : List ℕ). l ++ drop (table-length n) out)
-            (woven-arranged e ms holds marked count labels os us vs os′ us′ vs′ ends room-os room-us room-vs low labelled needs);
-      }
+-- the buffer stays as long as it was
+pub same-long : {ks ss bs out out′ : List ℕ} {n labels : ℕ} → Weavable ks ss bs n labels out → WovenInto ks ss bs n labels out out′
+    → length out′ ≡ length out
+same-long {out = out} {n = n} r woven =
+    let e = r .marking .held .tree in
+    let ms = r .marking .row in
+    ap length (woven .each e ms (r .marking .held .holds) (r .marking .marked) (r .marking .held .count) (r .needs))
+    ∙ length-append (table-of (weave (arranged ms e))) (drop (table-length n) out)
+    ∙ rw (long-woven e ms n (r .marking .held .count), length-drop (table-length n) out) (omega (arith, r .room))
 
 -- pricing by the marks finds them
-pub price-site : {ks ss bs : List ℕ} {n i : ℕ} → Marking ks ss bs n → 2047 ≤ length bs → i ≡ root-of n → turning.MarkedSite ks ss bs i
+pub price-site : {ks ss bs : List ℕ} {n i : ℕ} → Marking ks ss bs n → i ≡ root-of n → turning.MarkedSite ks ss bs i
 unfolding turn-site
-price-site {bs = bs} m room is =
-    record { site = turn-site (m .site) room is; row = m .row; marked = subst (λ (j : ℕ). Marked bs j (m .site .tree) (m .row)) (sym is) (m .marked) }
+price-site {bs = bs} m is =
+    record { site = turn-site (m .held) is; row = m .row; marked = subst (λ (j : ℕ). Marked bs j (m .held .tree) (m .row)) (sym is) (m .marked) }
 
 -- the labels that the greatest cost counts
 pub labels-needed : {ks ss bs : List ℕ} (n : ℕ) {i : ℕ} {t : Tag} (labels : ℕ) → i ≡ root-of n → turning.PricedBy ks ss bs i t → labels ≡ greatest t
@@ -187,11 +148,11 @@ pub labels-needed : {ks ss bs : List ℕ} (n : ℕ) {i : ℕ} {t : Tag} (labels 
 labels-needed n labels is priced same e ms holds marked =
     label-count-greatest (arranged ms e) ∙ ap greatest (sym (priced .each e ms (rw is holds) (rw is marked))) ∙ sym same
 
-pub weave-ready : {ks ss bs out : List ℕ} {n labels : ℕ} (m : Marking ks ss bs n)
+pub weave-room : {ks ss bs out : List ℕ} {n labels : ℕ} (m : Marking ks ss bs n)
     → ((e : Expr) (ms : List Bool) → Holds ks ss (root-of n) e → Marked bs (root-of n) e ms → weave (arranged ms e) .label-count ≡ labels)
-    → labels ≤ most-labels → table-length n ≤ length out → Ready ks ss bs n labels out
-weave-ready m needs low room =
-    record { marking = m; needs = needs (m .site .tree) (m .row) (m .site .holds) (m .marked); few-labels = low; room = room }
+    → labels ≤ most-labels → table-length n ≤ length out → Weavable ks ss bs n labels out
+weave-room m needs low room =
+    record { marking = m; needs = needs (m .held .tree) (m .row) (m .held .holds) (m .marked); few-labels = low; room = room }
 
 -- the three ways in which finishing ends
 module _ {ks ss bs before : List ℕ} {n labels : ℕ}
@@ -239,8 +200,8 @@ module _ {ks ss bs before : List ℕ} {n labels : ℕ}
   pub woven-long : {after : List ℕ} → Marking ks ss bs n → table-length n ≤ length before → WovenInto ks ss bs n labels before after
       → length after ≡ length before
   woven-long m room woven =
-      let e = m .site .tree in
+      let e = m .held .tree in
       let ms = m .row in
-      ap length (woven .each e ms (m .site .holds) (m .marked) (m .site .count) (needs e ms (m .site .holds) (m .marked)))
+      ap length (woven .each e ms (m .held .holds) (m .marked) (m .held .count) (needs e ms (m .held .holds) (m .marked)))
       ∙ length-append (table-of (weave (arranged ms e))) (drop (table-length n) before)
-      ∙ rw (long-woven e ms n (m .site .count), length-drop (table-length n) before) (omega arith)
+      ∙ rw (long-woven e ms n (m .held .count), length-drop (table-length n) before) (omega arith)

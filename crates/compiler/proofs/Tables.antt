@@ -5,22 +5,22 @@ use mathlib.Core.Path.{_≡_, refl, sym, ap, _∙_, subst}
 use mathlib.Core.Bool.{Bool, true, false}
 use mathlib.Core.Logic.{_⊎_, inl, inr}
 use mathlib.Core.List.{List, [], _∷_, _++_, map}
-use native.Mathlib.Nat.{not-suc-le-zero, le-trans}
+use native.Mathlib.Nat.{not-suc-le-zero}
 use native.Mathlib.Omega.{arith}
-use lib.ListN.{length, getD, length-append, List·getD-map}
-use Rattle.terms.specs.Terms.{first-label, greatest-primitive, most-literals, least-labels, most-labels}
-use Rattle.formula.specs.Formula.{Literal, Kind, Expr, literal, join, literals}
+use lib.ListN.{length, getD, List·getD-map}
+use Rattle.terms.specs.Terms.{first-label, greatest-primitive, most-literals, most-labels}
+use Rattle.formula.specs.Formula.{Literal, Expr, literal, literals}
 use Rattle.formula.proofs.Small.{SmallPrimitives, one, both}
 use Rattle.weaving.specs.Gates.{in-order}
-use Rattle.weaving.specs.Labels.{GateRecord, Woven, weave}
+use Rattle.weaving.specs.Labels.{weave}
 use Rattle.weaving.proofs.Places.{literals-some, length-in-order}
-use Rattle.weaving.proofs.Run.{weave-literals}
+use Rattle.weaving.proofs.Following.{weave-literals}
 use Rattle.weaving.proofs.Ends.{ends-differ}
 use Rattle.weaving.proofs.Range.{records-in-table, true-in-table, false-in-table, two-labels, first-own-label, length-gate-records}
-use Rattle.table.specs.Layout.{P, N, header-length, record-start, table-length, kind-of, Header, header-of, GateFields, gate-of, EndFields, end-of}
-use Rattle.table.specs.WellFormed.{HeaderFits, InRange, GateFits, EndFits, WellFormed}
+use Rattle.table.specs.Layout.{P, N, table-length, kind-by-sense, Header, header-of, GateFields, gate-of, EndFields, end-of}
+use Rattle.table.specs.WellFormed.{InRange, GateFits, EndFits, WellFormed}
 use Rattle.compiler.specs.Compiled.{table-of}
-use Rattle.compiler.proofs.Bytes.{no-record, record-of, gate-count, table-of-length, header-back, fields-of, gate-back, end-back}
+use Rattle.compiler.proofs.Bytes.{no-record, record-of, table-of-length, header-back, fields-of, gate-back, end-back}
 
 -- every literal of a list is a primitive's
 data AllSmall : List Literal → Type 0 where
@@ -42,7 +42,7 @@ small-in-order (one h) = more h none
 small-in-order (both a b) = all-append (small-in-order a) (small-in-order b)
 
 -- the kind of a gate's record is one of the two
-kind-one : (sense : Bool) → (kind-of sense ≡ P) ⊎ (kind-of sense ≡ N)
+kind-one : (sense : Bool) → (kind-by-sense sense ≡ P) ⊎ (kind-by-sense sense ≡ N)
 kind-one true = inl refl
 kind-one false = inr refl
 

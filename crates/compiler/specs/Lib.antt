@@ -1,4 +1,5 @@
 pub mod Compiled
+pub mod twins
 pub mod Rows
 pub mod Shown
-pub mod Finished
+pub mod code

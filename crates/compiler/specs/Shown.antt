@@ -8,13 +8,14 @@ use mathlib.Core.List.{List}
 use lib.ListN.{length}
 use Rattle.terms.specs.Answer.{Answer, result, refused}
 use Rattle.compiler.specs.declared.Compiled.{Compiled}
-use Rattle.compiler.specs.Compiled.{compiled, written}
+use Rattle.compiler.specs.Compiled.{written}
+use Rattle.compiler.specs.twins.Compiling.{compiled}
 
 abbrev pub shown-compiled : Compiled → Answer ℕ
 shown-compiled (Compiled.Table n) = result n
 shown-compiled (Compiled.Refused f) = refused (f .number) (f .at)
 
--- "and returns that length"
+-- "and returns that length" (scope 5.2)
 abbrev pub length-of : Answer (List ℕ) → Answer ℕ
 length-of (result bytes) = result (length bytes)
 length-of (refused r at) = refused r at

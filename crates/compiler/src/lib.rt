@@ -1,22 +1,19 @@
 // Compile: read, plan, finish. The order of refusals 1 to 8, and nothing written on refusal.
 // The working slices are local; only the output buffer is lent.
-use terms::Place;
+use terms::MOST_LABELS;
 use terms::Refusal;
 use text::Reading;
 ghost use mathlib.Core.Path.{_≡_};
 ghost use Prim.Native.Nat.{ℕ, _+_, _*_, _≤_, _<_};
 ghost use lib.ListN.{length};
 ghost use Rattle.compiler.specs.Shown.{CompiledRight};
-ghost use Rattle.compiler.specs.Finished.{root-of, Site, Marking, Planned, Ready, WovenInto, FinishedBy};
+ghost use Rattle.compiler.specs.code.Finished.{root-of, HeldTree, Marking, Planned, Weavable, WovenInto, FinishedBy};
 
 // The length of the table in the lent buffer, or a refusal with nothing written.
 pub enum Compiled {
     Table(usize),
     Refused(Refusal),
 }
-
-// The most labels of a table.
-const MOST_LABELS: u16 = 15;
 
 // The slot of the root of an expression with n literals.
 fn root(n: usize) -> usize
@@ -28,7 +25,7 @@ fn root(n: usize) -> usize
 
 // Turns the held expression: one mark an operator.
 pub fn plan(kinds: &[u16; 2047], spans: &[u16; 2047], marks: &mut [u8; 2047], n: usize)
-    requires { ⌜ Site (now kinds) (now spans) n ⌝ }
+    requires { ⌜ HeldTree (now kinds) (now spans) n ⌝ }
     ensures { λ _. ⌜ Planned (now (kinds .entry)) (now (spans .entry)) (now (marks .exit)) n ⌝ }
 {
     turning::turn::turn(kinds, spans, marks, root(n));
@@ -42,36 +39,25 @@ fn weave_with(
     n: usize,
     labels: u8,
     out: &mut [u8],
-    gates: &mut [u16; 1024],
+    primitives: &mut [u16; 1024],
+    senses: &mut [u8; 1024],
     trues: &mut [u16; 1024],
     falses: &mut [u16; 1024],
     owns: &mut [u8; 1024],
     on_trues: &mut [u8; 1024],
     on_falses: &mut [u8; 1024],
 )
-    requires { ⌜ Ready (now kinds) (now spans) (now marks) n labels (now out) ⌝ }
+    requires { ⌜ Weavable (now kinds) (now spans) (now marks) n labels (now out) ⌝ }
     ensures { λ _. ⌜ WovenInto (now (kinds .entry)) (now (spans .entry)) (now (marks .entry)) n labels (now (out .entry)) (now (out .exit)) ⌝ }
 {
-    let on_true = Place(n as u16);
-    let on_false = Place((n + 1) as u16);
-    weaving::lay::lay(
-        kinds,
-        spans,
-        marks,
-        root(n),
-        Place(0),
-        on_true,
-        on_false,
-        gates,
-        trues,
-        falses,
-    );
+    weaving::lay::lay(kinds, spans, marks, n, primitives, senses, trues, falses);
     let ends = weaving::label::label(n, trues, falses, owns, on_trues, on_falses);
     table::write::write(
         out,
         n,
         labels,
-        gates,
+        primitives,
+        senses,
         owns,
         on_trues,
         on_falses,
@@ -89,10 +75,11 @@ fn weave(
     labels: u8,
     out: &mut [u8],
 )
-    requires { ⌜ Ready (now kinds) (now spans) (now marks) n labels (now out) ⌝ }
+    requires { ⌜ Weavable (now kinds) (now spans) (now marks) n labels (now out) ⌝ }
     ensures { λ _. ⌜ WovenInto (now (kinds .entry)) (now (spans .entry)) (now (marks .entry)) n labels (now (out .entry)) (now (out .exit)) ⌝ }
 {
-    let mut gates = [0u16; 1024];
+    let mut primitives = [0u16; 1024];
+    let mut senses = [0u8; 1024];
     let mut trues = [0u16; 1024];
     let mut falses = [0u16; 1024];
     let mut owns = [0u8; 1024];
@@ -105,7 +92,8 @@ fn weave(
         n,
         labels,
         out,
-        &mut gates,
+        &mut primitives,
+        &mut senses,
         &mut trues,
         &mut falses,
         &mut owns,
@@ -128,7 +116,7 @@ pub fn finish(
     let tag = turning::turn::price_by(kinds, spans, marks, root(n));
     let costs = tag.costs;
     let labels = turning::price::greatest(costs);
-    if labels > MOST_LABELS {
+    if labels > (MOST_LABELS as u16) {
         return Compiled::Refused(Refusal { number: 7, at: 0 });
     }
     let length = table::table_length(n as u16);

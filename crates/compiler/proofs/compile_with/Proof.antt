@@ -1,6 +1,6 @@
 -- `compile_with` reads, plans and finishes, and each part's answer is the one that `compiled` puts together. Assumes nothing.
 use borrow.Author.Needs.{needs}
-use Rattle.compiler.proofs.Compiling.{read-site, read-marking, compiled-refused, compiled-held}
+use Rattle.compiler.proofs.Compiling.{read-tree, read-marking, compiled-refused, compiled-held}
 use Rattle.compiler.proofs.compile_with.Statement.{statement}
 use Rattle.compiler.proofs.compile_with.Tie as tie
 
@@ -14,10 +14,17 @@ enum-known-n : tie.Need-enum-known-n
 enum-known-n c = search needs
 
 plan-requires : tie.Need-plan-requires
-plan-requires c κs = read-site (c .before .before .before .before .n .given .1) (c .before .before .before .before .before .before .read .ensures)
+plan-requires c κs =
+    let at-n = c .before .before .before .before in
+    let at-read = at-n .before .before in
+    read-tree (at-n .n .given .1) (at-read .read .ensures)
 
 finish-requires : tie.Need-finish-requires
-finish-requires c κs = read-marking (c .before .before .before .before .before .before .before .before .before .n .given .1) (c .before .before .before .before .before .before .before .before .before .before .before .read .ensures) (c .before .before .before .before .plan .ensures)
+finish-requires c κs =
+    let at-plan = c .before .before .before .before in
+    let at-n = at-plan .before .before .before .before .before in
+    let at-read = at-n .before .before in
+    read-marking (at-n .n .given .1) (at-read .read .ensures) (at-plan .plan .ensures)
 
 returns : tie.Need-returns
 returns c = compiled-refused (c .before .refusal .given .1) (c .before .before .before .read .ensures)
@@ -26,7 +33,11 @@ same-length : tie.Need-same-length
 same-length c = search needs
 
 returns-2 : tie.Need-returns-2
-returns-2 c = compiled-held (c .before .before .before .before .before .before .before .before .before .before .before .before .n .given .1) (c .before .before .before .before .before .before .before .before .before .before .before .before .before .before .read .ensures) (c .before .before .before .before .before .before .before .plan .ensures) (c .before .before .finish .ensures)
+returns-2 c =
+    let at-plan = c .before .before .before .before .before .before .before in
+    let at-n = at-plan .before .before .before .before .before in
+    let at-read = at-n .before .before in
+    compiled-held (at-n .n .given .1) (at-read .read .ensures) (at-plan .plan .ensures) (c .before .before .finish .ensures)
 
 pub compile-with-spec : {M : Type 1} → statement M
 compile-with-spec =

@@ -1,15 +1,13 @@
 -- `plan` turns the expression at the root, and turning leaves the marks that the definitions give. Assumes nothing.
-use native.Mathlib.Omega.{arith}
-use borrow.Author.Needs.{needs}
-use Rattle.compiler.proofs.Sites.{site-some, turn-site, turned-planned}
+use Rattle.compiler.proofs.Sites.{tree-some, turn-site, turned-planned}
 use Rattle.compiler.proofs.plan.Statement.{statement}
 use Rattle.compiler.proofs.plan.Tie as tie
 
 root-requires : tie.Need-root-requires
-root-requires c κs = site-some (c .before .before .before .pre)
+root-requires c κs = tree-some (c .before .pre)
 
 turn-requires : tie.Need-turn-requires
-turn-requires c κs = turn-site (c .before .before .before .before .pre) (omega (arith, c .before .turn-arg3 .given .0)) (c .root .ensures)
+turn-requires c κs = turn-site (c .before .before .pre) (c .root .ensures)
 
 returns : tie.Need-returns
 returns c = turned-planned (c .before .root .ensures) (c .turn .ensures)
