@@ -1,22 +1,21 @@
 -- A right answer of compile is listed as the definition says: a table stands at the front of the buffer and is well formed.
 -- Assumes nothing.
-use Prim.Native.Nat.{ℕ, _+_, _≤_}
+use Prim.Native.Nat.{ℕ, _≤_}
 use mathlib.Core.Path.{_≡_, refl, sym, ap, _∙_, subst}
-use mathlib.Core.List.{List, _++_}
+use mathlib.Core.List.{List}
 use native.Mathlib.Omega.{arith}
 use lib.ListN.{length, take, drop, length-append}
 use lib.Seq.{take-append-seam}
 use Rattle.terms.specs.declared.Refusal.{Refusal}
 use Rattle.terms.specs.Answer.{Answer, result, refused}
-use Rattle.table.specs.WellFormed.{WellFormed}
 use Rattle.compiler.specs.declared.Compiled.{Compiled}
-use Rattle.compiler.specs.Compiled.{compiled, written}
+use Rattle.compiler.specs.Compiled.{written}
+use Rattle.compiler.specs.twins.Compiling.{compiled}
 use Rattle.compiler.specs.Shown.{shown-compiled, length-of, CompiledRight}
-use Rattle.compiler.proofs.Refusals.{Answered, compiled-is}
+use Rattle.compiler.proofs.Formed.{compiled-formed}
 use Rattle.listing.specs.Lines.{lines, refusal-line}
-use Rattle.listing.specs.Written.{Printed, Listable}
+use Rattle.listing.specs.code.Written.{Printed, Listable}
 use Rattle.listing.proofs.Tables.{well-formed-listable}
-use Rattle.promises.proofs.Demands.{table-formed}
 use Rattle.list.specs.Listed.{roomy, shown, listed}
 
 -- the table that stands at the front of the buffer
@@ -56,8 +55,7 @@ module _ {text before after : List ℕ} {a : Compiled} (room : length before ≡
   pub front-listable : {n : ℕ} → a ≡ Compiled.Table n → Listable (take n after)
   front-listable is =
       let f = at-front is in
-      let known = compiled-is text roomy (result (f .table)) .0 (f .answer) in
-      rw (f .front) (well-formed-listable (f .table) (table-formed (record { answers = f .answer; means = known .derives })))
+      rw (f .front) (well-formed-listable (f .table) (compiled-formed text roomy (f .table) (f .answer)))
 
   pub table-listed : {n r : ℕ} {out out′ : List ℕ} → a ≡ Compiled.Table n → Printed out out′ (lines (take n after)) r → Printed out out′ (listed text) r
   unfolding listed

@@ -1,11 +1,11 @@
--- What the listing program writes: the lines of the text's table, or the line of its refusal.
+-- What the listing program writes: the lines of the text's table, or the line of its refusal (scope 9).
 --   roomy       == room for the table of every accepted text
 --   listed text == those lines
 -- Assumes nothing.
 use Prim.Native.Nat.{ℕ}
 use mathlib.Core.List.{List}
 use Rattle.terms.specs.Answer.{Answer, result, refused}
-use Rattle.compiler.specs.Compiled.{compiled}
+use Rattle.compiler.specs.twins.Compiling.{compiled}
 use Rattle.listing.specs.Lines.{lines, refusal-line}
 
 abbrev pub roomy : ℕ

@@ -8,7 +8,7 @@ use native.Mathlib.Decide.{decLe}
 use borrow.Author.Tests.{lt-ltb, le-ltb}
 use lib.ListN.{length, length-append}
 use Rattle.listing.specs.Lines.{digit, digits, decimal}
-use Rattle.listing.specs.Written.{Written}
+use Rattle.listing.specs.code.Written.{Written}
 use Rattle.listing.proofs.Writing.{then}
 
 last-of : (most n : ℕ) → n < 10 → digits (suc most) n ≡ digit n ∷ []

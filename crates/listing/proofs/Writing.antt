@@ -8,7 +8,7 @@ use native.Mathlib.Omega.{arith}
 use lib.ListN.{length, take, drop, getD, set, length-append, length-take}
 use lib.Seq.{sets, sets-eq, length-sets, take-suc, take-all}
 use Rattle.terms.proofs.Stores.{sets-append}
-use Rattle.listing.specs.Written.{Written, WrittenWithin, Printed}
+use Rattle.listing.specs.code.Written.{Written, WrittenWithin, Printed}
 
 -- one text, and then another behind it
 pub then : {a b c : List ℕ} {i j k : ℕ} {xs ys : List ℕ} → Written a b i xs j → Written b c j ys k → Written a c i (xs ++ ys) k

@@ -30,19 +30,23 @@ newline = 10 ∷ []
 abbrev pub spaced : ℕ → List ℕ
 spaced n = bytes " " ++ decimal n
 
--- "one line of gate and label counts"
-abbrev pub counts-line : ℕ → ℕ → List ℕ
-counts-line gates labels = bytes "gates " ++ (decimal gates ++ (bytes " labels " ++ (decimal labels ++ newline)))
+-- a line of two words, each with a number behind it
+abbrev pub pair-line : List ℕ → ℕ → List ℕ → ℕ → List ℕ
+pair-line first m second n = first ++ (decimal m ++ (second ++ (decimal n ++ newline)))
 
--- "`+` plain or `-` complemented"
+-- "one line of gate and label counts" (scope 9)
+abbrev pub counts-line : ℕ → ℕ → List ℕ
+counts-line gates labels = pair-line (bytes "gates ") gates (bytes " labels ") labels
+
+-- "`+` plain or `-` complemented" (scope 9)
 abbrev pub sign : ℕ → List ℕ
 sign kind = cond (eqb kind P) (bytes " +") (bytes " -")
 
--- "own, true and false label"
+-- "own, true and false label" (scope 9)
 abbrev pub three-labels : Label → Label → Label → List ℕ
 three-labels own on-true on-false = spaced own ++ (spaced on-true ++ spaced on-false)
 
--- "a line per gate (gate, primitive, `+` plain or `-` complemented, own, true and false label)"
+-- "a line per gate (gate, primitive, `+` plain or `-` complemented, own, true and false label)" (scope 9)
 abbrev pub gate-line : ℕ → GateFields → List ℕ
 gate-line k gate =
     decimal k ++ (spaced (gate .primitive) ++ (sign (gate .kind) ++ (three-labels (gate .own) (gate .on-true) (gate .on-false) ++ newline)))
@@ -52,15 +56,15 @@ unfoldable pub gate-lines : List ℕ → ℕ → List ℕ
 gate-lines table zero = []
 gate-lines table (suc n) = gate-lines table n ++ gate-line n (gate-of table n)
 
--- "the two end labels"
+-- "the two end labels" (scope 9)
 abbrev pub ends-line : Label → Label → List ℕ
-ends-line on-true on-false = bytes "true " ++ (decimal on-true ++ (bytes " false " ++ (decimal on-false ++ newline)))
+ends-line on-true on-false = pair-line (bytes "true ") on-true (bytes " false ") on-false
 
 unfoldable pub lines : List ℕ → List ℕ
 lines table =
     let n = header-of table .gates in
     counts-line n (header-of table .labels) ++ (gate-lines table n ++ ends-line (end-of table n .on-true) (end-of table n .on-false))
 
--- "A refusal is the single line `refused R at P`."
+-- "A refusal is the single line `refused R at P`." (scope 9)
 unfoldable pub refusal-line : ℕ → ℕ → List ℕ
-refusal-line number at = bytes "refused " ++ (decimal number ++ (bytes " at " ++ (decimal at ++ newline)))
+refusal-line number at = pair-line (bytes "refused ") number (bytes " at ") at

@@ -1,4 +1,4 @@
--- What it is for bytes to be a number's decimal digits, said without computing them.
+-- What it is for bytes to be a number's decimal digits, said without computing them (scope 9).
 --   Numeral n text == the text is one or more digits, says n, and has no leading zero
 -- Assumes nothing.
 use Prim.Native.Nat.{ℕ, _+_, _*_, _-_, _≤_, _<_}

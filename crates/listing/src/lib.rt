@@ -1,17 +1,18 @@
 // The listing: the lines of a table or of a refusal, written into a lent buffer. A writer takes the buffer and the place
 // to write at, and answers the place behind what it wrote.
+use table::Gate;
 use terms::Label;
 use terms::Place;
 use terms::Primitive;
 use terms::Refusal;
 ghost use mathlib.Core.Path.{_≡_};
 ghost use mathlib.Core.List.{[], _∷_};
-ghost use Prim.Native.Nat.{_+_, _*_, _≤_, _<_};
+ghost use Prim.Native.Nat.{_+_, _≤_, _<_};
 ghost use lib.ListN.{length};
 ghost use Rattle.terms.specs.Terms.{most-literals};
-ghost use Rattle.table.specs.Layout.{gate-length, byte-at, number-at, record-start, gate-of};
-ghost use Rattle.listing.specs.Lines.{digit, decimal, spaced, counts-line, sign, three-labels, gate-line, ends-line, lines, refusal-line};
-ghost use Rattle.listing.specs.Written.{Written, WrittenWithin, Printed, Listable};
+ghost use Rattle.table.specs.Shown.{shown-gate};
+ghost use Rattle.listing.specs.Lines.{digit, decimal, spaced, counts-line, sign, three-labels, gate-line, pair-line, ends-line, lines, refusal-line};
+ghost use Rattle.listing.specs.code.Written.{Written, WrittenWithin, Printed, Listable};
 
 const NEWLINE: u8 = 10;
 
@@ -25,12 +26,6 @@ fn wider(x: u16) -> usize
     ensures { λ r. ⌜ r ≡ x ⌝ }
 {
     x as usize
-}
-
-fn number(low: u8, high: u8) -> u16
-    ensures { λ r. ⌜ r ≡ low + 256 * high ⌝ }
-{
-    (low as u16) + 256 * (high as u16)
 }
 
 fn put_byte(out: &mut [u8; 32768], at: usize, byte: u8) -> usize
@@ -130,37 +125,36 @@ fn put_labels(
     put_label(out, second, on_false)
 }
 
-fn label_at(table: &[u8], i: usize) -> Label
-    requires { ⌜ i < length (now table) ⌝ }
-    ensures { λ r. ⌜ r .0 ≡ byte-at (now (table .entry)) i ⌝ }
-{
-    Label(table[i])
-}
-
-// A two-byte number, low byte first.
-fn number_at(table: &[u8], i: usize) -> u16
-    requires { ⌜ i + 1 < length (now table) ⌝ }
-    ensures { λ r. ⌜ r ≡ number-at (now (table .entry)) i ⌝ }
-{
-    number(table[i], table[i + 1])
-}
-
 // The line of gate k.
-fn put_gate(out: &mut [u8; 32768], at: usize, table: &[u8], k: Place) -> usize
+fn put_gate(out: &mut [u8; 32768], at: usize, k: Place, gate: Gate) -> usize
     requires { ⌜ at + 64 ≤ 32768 ⌝ }
     requires { ⌜ k .0 < most-literals ⌝ }
-    requires { ⌜ record-start (k .0) + gate-length ≤ length (now table) ⌝ }
-    ensures { λ r. ⌜ WrittenWithin 25 (now (out .entry)) (now (out .exit)) at (gate-line (k .0) (gate-of (now (table .entry)) (k .0))) r ⌝ }
+    ensures { λ r. ⌜ WrittenWithin 25 (now (out .entry)) (now (out .exit)) at (gate-line (k .0) (shown-gate gate)) r ⌝ }
 {
-    let start = table::record_start(k);
-    let primitive = Primitive(number_at(table, start + 1));
-    let own = label_at(table, start + 3);
-    let on_true = label_at(table, start + 4);
-    let on_false = label_at(table, start + 5);
     let first = put_number(out, at, wider(k.0));
-    let second = put_primitive(out, first, primitive);
-    let third = put_sign(out, second, table[start]);
-    let last = put_labels(out, third, own, on_true, on_false);
+    let second = put_primitive(out, first, gate.primitive);
+    let third = put_sign(out, second, gate.kind);
+    let last = put_labels(out, third, gate.own, gate.on_true, gate.on_false);
+    put_byte(out, last, NEWLINE)
+}
+
+// A line of two words, each with a number behind it.
+fn put_pair(
+    out: &mut [u8; 32768],
+    at: usize,
+    first: &[u8],
+    m: usize,
+    second: &[u8],
+    n: usize,
+) -> usize
+    requires { ⌜ at + (length (now first) + (length (now second) + 41)) ≤ 32768 ⌝ }
+    ensures { λ r. ⌜ WrittenWithin (length (now (first .entry)) + (length (now (second .entry)) + 41)) (now (out .entry)) (now (out .exit)) at (pair-line (now (first .entry)) m (now (second .entry)) n) r ⌝ }
+    ensures { λ _. ⌜ length (now (out .entry)) ≡ 32768 ⌝ }
+{
+    let named = put_word(out, at, first);
+    let between = put_number(out, named, m);
+    let again = put_word(out, between, second);
+    let last = put_number(out, again, n);
     put_byte(out, last, NEWLINE)
 }
 
@@ -169,11 +163,7 @@ fn put_counts(out: &mut [u8; 32768], gates: u16, labels: u8) -> usize
     ensures { λ r. ⌜ WrittenWithin 55 (now (out .entry)) (now (out .exit)) 0 (counts-line gates labels) r ⌝ }
     ensures { λ _. ⌜ length (now (out .entry)) ≡ 32768 ⌝ }
 {
-    let first = put_word(out, 0, b"gates ");
-    let second = put_number(out, first, wider(gates));
-    let third = put_word(out, second, b" labels ");
-    let last = put_number(out, third, wide(labels));
-    put_byte(out, last, NEWLINE)
+    put_pair(out, 0, b"gates ", wider(gates), b" labels ", wide(labels))
 }
 
 // The line of the two end labels, which is the last one.
@@ -181,11 +171,14 @@ fn put_ends(out: &mut [u8; 32768], at: usize, on_true: Label, on_false: Label) -
     requires { ⌜ at + 53 ≤ 32768 ⌝ }
     ensures { λ r. ⌜ WrittenWithin 53 (now (out .entry)) (now (out .exit)) at (ends-line («on_true» .0) («on_false» .0)) r ⌝ }
 {
-    let first = put_word(out, at, b"true ");
-    let second = put_number(out, first, wide(on_true.0));
-    let third = put_word(out, second, b" false ");
-    let last = put_number(out, third, wide(on_false.0));
-    put_byte(out, last, NEWLINE)
+    put_pair(
+        out,
+        at,
+        b"true ",
+        wide(on_true.0),
+        b" false ",
+        wide(on_false.0),
+    )
 }
 
 // Writes the lines of a table, and answers how many bytes they are.
@@ -193,26 +186,28 @@ pub fn print_table(table: &[u8], out: &mut [u8; 32768]) -> usize
     requires { ⌜ Listable (now table) ⌝ }
     ensures { λ r. ⌜ Printed (now (out .entry)) (now (out .exit)) (lines (now (table .entry))) r ⌝ }
 {
-    let gates = number_at(table, 1);
-    let end = table::record_start(Place(gates));
-    let on_true = label_at(table, end + 1);
-    let on_false = label_at(table, end + 2);
-    let mut at = put_counts(out, gates, table[3]);
+    let header = table::header_at(table);
+    let end = table::end_at(table, header);
+    let gates = header.gates;
+    let mut at = put_counts(out, gates, header.labels);
     let mut k = 0;
     while k < gates {
-        at = put_gate(out, at, table, Place(k));
+        at = put_gate(out, at, Place(k), table::gate_at(table, header, Place(k)));
         k += 1;
     }
-    put_ends(out, at, on_true, on_false)
+    put_ends(out, at, end.on_true, end.on_false)
 }
 
 // Writes the line of a refusal, and answers how many bytes it is.
 pub fn print_refusal(refusal: Refusal, out: &mut [u8; 32768]) -> usize
     ensures { λ r. ⌜ Printed (now (out .entry)) (now (out .exit)) (refusal-line (refusal .number) (refusal .at)) r ⌝ }
 {
-    let first = put_word(out, 0, b"refused ");
-    let second = put_number(out, first, wide(refusal.number));
-    let third = put_word(out, second, b" at ");
-    let last = put_number(out, third, refusal.at);
-    put_byte(out, last, NEWLINE)
+    put_pair(
+        out,
+        0,
+        b"refused ",
+        wide(refusal.number),
+        b" at ",
+        refusal.at,
+    )
 }

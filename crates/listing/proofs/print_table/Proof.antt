@@ -1,71 +1,85 @@
--- `print_table` is right because it writes the line of the counts, the lines of the gates in their order and the line of the ends, one behind
--- the other; each turn adds the next gate's line. Assumes nothing.
-use borrow.Author.Needs.{needs}
+-- `print_table` is right because it writes the line of the counts, the lines of the gates in their order and the line of the ends, one
+-- behind the other; each turn adds the next gate's line. Assumes nothing.
+use native.Mathlib.Omega.{arith}
 use Prim.Native.Nat.{_*_, _-_, _≤_}
 use Rattle.listing.specs.Lines.{gate-lines}
-use Rattle.listing.specs.Written.{WrittenWithin}
-use Rattle.listing.proofs.Parts.{no-gate, next-gate, all-lines}
+use Rattle.listing.specs.code.Written.{WrittenWithin}
+use Rattle.listing.proofs.Parts.{no-gate, few, holds-end, holds-gate, next-gate, all-lines}
+use borrow.Author.Needs.{needs}
 use Rattle.listing.proofs.print_table.Statement.{statement}
 use Rattle.listing.proofs.print_table.Tie as tie
 
 abbrev Inv-loop : tie.InvT-loop
-Inv-loop table out₀ gates end on-true on-false at₀ k₀ out at k = (k ≤ gates) × WrittenWithin (25 * k) out₀ out at₀ (gate-lines table k) at
+Inv-loop table out₀ header end gates at₀ k₀ out at k = (k ≤ gates) × WrittenWithin (25 * k) out₀ out at₀ (gate-lines table k) at
 
 abbrev μ-loop : tie.MeasureT-loop
-μ-loop table out₀ gates end on-true on-false at₀ k₀ out at k = gates - k
+μ-loop table out₀ header end gates at₀ k₀ out at k = gates - k
 
-number-at-requires : tie.Need-number-at-requires Inv-loop μ-loop
-number-at-requires c κs = search needs
+header-at-requires : tie.Need-header-at-requires Inv-loop μ-loop
+header-at-requires c κs = omega (arith, c .before .pre .long)
 
-record-start-requires : tie.Need-record-start-requires Inv-loop μ-loop
-record-start-requires c κs = search needs
-
-add-label-at : tie.Need-add-label-at Inv-loop μ-loop
-add-label-at c = search needs
-
-label-at-requires : tie.Need-label-at-requires Inv-loop μ-loop
-label-at-requires c κs = search needs
-
-add-label-at-2 : tie.Need-add-label-at-2 Inv-loop μ-loop
-add-label-at-2 c = search needs
-
-label-at-requires-2 : tie.Need-label-at-requires-2 Inv-loop μ-loop
-label-at-requires-2 c κs = search needs
-
-shared-slice-read-put-counts : tie.Need-shared-slice-read-put-counts Inv-loop μ-loop
-shared-slice-read-put-counts c = search needs
+end-at-requires : tie.Need-end-at-requires Inv-loop μ-loop
+end-at-requires c κs =
+    let s = c .before .before in
+    holds-end (s .args .table .now) _ (c .header-at .ensures) (s .pre)
 
 put-counts-requires : tie.Need-put-counts-requires Inv-loop μ-loop
 put-counts-requires c κs = search needs
 
 loop-holds : tie.Need-loop-holds Inv-loop μ-loop
-loop-holds c = (search needs, no-gate (c .before .before .before .before .before .before .before .before .args .table .now) _ _)
+loop-holds c =
+    let h = c .before .before .before in
+    (search needs, no-gate (h .before .before .args .table .now) _ (h .header-at .ensures) _ _)
+
+gate-at-requires : tie.Need-gate-at-requires Inv-loop μ-loop
+gate-at-requires c κs =
+    let h = c .before .before .before .before .before .before in
+    let s = h .before .before in
+    holds-gate (s .args .table .now) _ (h .header-at .ensures) (s .pre) _ (c .before .loop-test .taken)
 
 put-gate-requires : tie.Need-put-gate-requires Inv-loop μ-loop
-put-gate-requires c κs = search needs
+put-gate-requires c κs =
+    let l = c .before .before .before in
+    let n = l .before in
+    let h = n .before .before .before in
+    let s = h .before .before in
+    let most = few (s .args .table .now) _ (h .header-at .ensures) (s .pre) in
+    (omega (arith, most, n .put-counts .ensures .0 .near, l .loop .inv .1 .near, c .before .before .loop-test .taken), omega (arith, most, c .before .before .loop-test .taken))
 
 add-k : tie.Need-add-k Inv-loop μ-loop
-add-k c = search needs
+add-k c =
+    let at-loop-test = c .before .before .before in
+    let at-before = at-loop-test .before .before .before .before in
+    let h = at-before .before in
+    let s = h .before .before in
+    omega (arith, few (s .args .table .now) _ (h .header-at .ensures) (s .pre), at-loop-test .loop-test .taken)
 
 loop-less : tie.Need-loop-less Inv-loop μ-loop
 loop-less c = search needs
 
 loop-again : tie.Need-loop-again Inv-loop μ-loop
 loop-again c =
-    let loop = c .before .before .before in
-    (search needs, next-gate (loop .before .before .before .before .before .before .before .before .before .args .table .now) _ (loop .loop .inv .1) (c .put-gate .ensures))
+    let l = c .before .before .before .before in
+    let h = l .before .before .before .before in
+    (search needs, next-gate (h .before .before .args .table .now) _ (h .header-at .ensures) _ _ (c .before .gate-at .ensures) (l .loop .inv .1) (c .put-gate .ensures))
 
 put-ends-requires : tie.Need-put-ends-requires Inv-loop μ-loop
-put-ends-requires c κs = search needs
+put-ends-requires c κs =
+    let l = c .before .before in
+    let n = l .before in
+    let h = n .before .before .before in
+    let s = h .before .before in
+    omega (arith, few (s .args .table .now) _ (h .header-at .ensures) (s .pre), n .put-counts .ensures .0 .near, l .loop .inv .0, l .loop .inv .1 .near)
 
 returns : tie.Need-returns Inv-loop μ-loop
 returns c =
-    let loop = c .before .before .before in
-    let counts = loop .before in
-    let start = counts .before .before .before .before .before .before .before .before in
-    all-lines (start .args .table .now) _ _ _ _ _ (start .pre) (counts .put-counts .ensures .1)
-    (counts .before .before .before .before .before .before .number-at .ensures) (counts .before .before .before .before .before .record-start .ensures) (counts .before .before .before .before .label-at .ensures) (counts .before .before .before .label-at2 .ensures) (loop .loop .inv .0) (c .before .before .loop-test .left)
-    (counts .put-counts .ensures .0) (loop .loop .inv .1) (c .put-ends .ensures)
+    let l = c .before .before .before in
+    let n = l .before in
+    let e = n .before .before in
+    let h = e .before in
+    let s = h .before .before in
+    all-lines (s .args .table .now) _ (h .header-at .ensures) _ _ (e .end-at .ensures) (s .pre) (n .put-counts .ensures .1)
+    (l .loop .inv .0) (c .before .before .loop-test .left) (n .put-counts .ensures .0) (l .loop .inv .1) (c .put-ends .ensures)
 
 pub print-table-spec : {M : Type 1} → statement M
 print-table-spec =
@@ -73,15 +87,11 @@ print-table-spec =
     (tie.spec
     Inv-loop
     μ-loop
-    number-at-requires
-    record-start-requires
-    add-label-at
-    label-at-requires
-    add-label-at-2
-    label-at-requires-2
-    shared-slice-read-put-counts
+    header-at-requires
+    end-at-requires
     put-counts-requires
     loop-holds
+    gate-at-requires
     put-gate-requires
     add-k
     loop-less

@@ -9,7 +9,7 @@ use mathlib.Core.List.{List, _++_}
 use lib.ListN.{length, take, drop}
 use lib.Seq.{sets}
 use Rattle.terms.specs.Terms.{most-literals}
-use Rattle.table.specs.Layout.{table-length, header-of}
+use Rattle.table.specs.Layout.{length-by, header-of}
 
 pub record Written (old new : List ℕ) (at : ℕ) (text : List ℕ) (r : ℕ) : Type 0 where
   pub stored : new ≡ sets old at text
@@ -30,4 +30,4 @@ pub record Printed (old new text : List ℕ) (r : ℕ) : Type 0 where
 -- a well-formed table is one
 pub record Listable (table : List ℕ) : Type 0 where
   pub few-gates : header-of table .gates ≤ most-literals
-  pub long : length table ≡ table-length (header-of table .gates)
+  pub long : length table ≡ length-by (header-of table)
