@@ -1,8 +1,8 @@
--- `viewer::blist_answer` meets its contract: each arm makes the fields of the value that the proved answer gave. Assumes nothing.
+-- `blist::blist_answer` meets its contract: each arm makes the fields of the value that the proved answer gave. Assumes nothing.
 use borrow.Author.Needs.{needs}
-use Rattle.viewer.proofs.Carried.{answer-carried}
-use Rattle.viewer.proofs.blist_answer.Statement.{statement}
-use Rattle.viewer.proofs.blist_answer.Tie as tie
+use Rattle.blist.proofs.Carried.{answer-carried}
+use Rattle.blist.proofs.blist_answer.Statement.{statement}
+use Rattle.blist.proofs.blist_answer.Tie as tie
 
 answer-requires : tie.Need-answer-requires
 answer-requires c κs = search needs

@@ -1,8 +1,8 @@
--- `viewer::ended_on` meets its contract: the byte of the truth is what the definition puts there. Assumes nothing.
+-- `blist::ended_on` meets its contract: the byte of the truth is what the definition puts there. Assumes nothing.
 use borrow.Author.Needs.{needs}
 use mathlib.Core.Path.{refl}
-use Rattle.viewer.proofs.ended_on.Statement.{statement}
-use Rattle.viewer.proofs.ended_on.Tie as tie
+use Rattle.blist.proofs.ended_on.Statement.{statement}
+use Rattle.blist.proofs.ended_on.Tie as tie
 
 byte-of-requires : tie.Need-byte-of-requires
 byte-of-requires c κs = search needs

@@ -2,15 +2,23 @@
 // a refusal's number, nought for none, with its place, and the values of the result; nought where a field has no meaning.
 use compiler::Compiled;
 use run::Answered;
+use run::EndRead;
 use run::Fed;
+use run::GateRead;
+use run::HeaderRead;
 use run::Run;
 use run::Started;
+use table::End;
+use table::Gate;
+use table::Header;
+use terms::FIRST_LABEL;
 use terms::Label;
 use terms::Refusal;
 ghost use mathlib.Core.Path.{_≡_};
 ghost use mathlib.Core.Bool.{cond};
 ghost use Rattle.terms.specs.Answer.{result, refused};
-ghost use Rattle.viewer.specs.Plain.{plain-run, plain-truth, CompileRight, StartRight, FeedRight, AnswerRight};
+ghost use Rattle.blist.specs.Plain.{plain-run, plain-truth, plain-counts, plain-record, plain-ends, version, CompileRight, StartRight, FeedRight, AnswerRight, HeaderRight, GateRight, EndsRight};
+ghost use Rattle.table.specs.Shown.{shown-header, shown-gate, shown-end};
 ghost use Rattle.run.specs.Shown.{shown-run};
 
 // What compiling returns.
@@ -36,6 +44,35 @@ pub struct PlainTruth {
     pub refusal: u8,
     pub at: usize,
     pub truth: u8,
+}
+
+// What a header, a gate's record and the last record return.
+#[repr(C)]
+pub struct PlainCounts {
+    pub refusal: u8,
+    pub at: usize,
+    pub gates: usize,
+    pub labels: u8,
+    pub first_label: u8,
+}
+
+#[repr(C)]
+pub struct PlainRecord {
+    pub refusal: u8,
+    pub at: usize,
+    pub primitive: u16,
+    pub complemented: u8,
+    pub own: u8,
+    pub on_true: u8,
+    pub on_false: u8,
+}
+
+#[repr(C)]
+pub struct PlainEnds {
+    pub refusal: u8,
+    pub at: usize,
+    pub on_true: u8,
+    pub on_false: u8,
 }
 
 fn table_fields(refusal: u8, at: usize, length: usize) -> PlainTable
@@ -103,6 +140,89 @@ fn unanswered(refusal: Refusal) -> PlainTruth
     }
 }
 
+// What a header says, with the label that a run starts on.
+fn counted(header: Header) -> PlainCounts
+    ensures { λ r. ⌜ r ≡ plain-counts (result (shown-header header)) ⌝ }
+{
+    PlainCounts {
+        refusal: 0,
+        at: 0,
+        gates: header.gates as usize,
+        labels: header.labels,
+        first_label: FIRST_LABEL,
+    }
+}
+
+fn uncounted(refusal: Refusal) -> PlainCounts
+    ensures { λ r. ⌜ r ≡ plain-counts (refused (refusal .number) (refusal .at)) ⌝ }
+{
+    PlainCounts {
+        refusal: refusal.number,
+        at: refusal.at,
+        gates: 0,
+        labels: 0,
+        first_label: 0,
+    }
+}
+
+// What a gate's record says.
+fn recorded(gate: Gate) -> PlainRecord
+    ensures { λ r. ⌜ r ≡ plain-record (result (shown-gate gate)) ⌝ }
+{
+    let primitive = gate.primitive;
+    let own = gate.own;
+    let on_true = gate.on_true;
+    let on_false = gate.on_false;
+    PlainRecord {
+        refusal: 0,
+        at: 0,
+        primitive: primitive.0,
+        complemented: byte_of(gate.kind == table::N),
+        own: own.0,
+        on_true: on_true.0,
+        on_false: on_false.0,
+    }
+}
+
+fn unrecorded(refusal: Refusal) -> PlainRecord
+    ensures { λ r. ⌜ r ≡ plain-record (refused (refusal .number) (refusal .at)) ⌝ }
+{
+    PlainRecord {
+        refusal: refusal.number,
+        at: refusal.at,
+        primitive: 0,
+        complemented: 0,
+        own: 0,
+        on_true: 0,
+        on_false: 0,
+    }
+}
+
+// What the last record says.
+fn ending(end: End) -> PlainEnds
+    ensures { λ r. ⌜ r ≡ plain-ends (result (shown-end end)) ⌝ }
+{
+    let on_true = end.on_true;
+    let on_false = end.on_false;
+    PlainEnds {
+        refusal: 0,
+        at: 0,
+        on_true: on_true.0,
+        on_false: on_false.0,
+    }
+}
+
+fn unending(refusal: Refusal) -> PlainEnds
+    ensures { λ r. ⌜ r ≡ plain-ends (refused (refusal .number) (refusal .at)) ⌝ }
+{
+    PlainEnds {
+        refusal: refusal.number,
+        at: refusal.at,
+        on_true: 0,
+        on_false: 0,
+    }
+}
+
 // Compiles a text to a table at the start of the lent buffer; a refusal leaves the buffer as it was.
 #[no_mangle]
 pub extern "C" fn blist_compile(text: &[u8], out: &mut [u8]) -> PlainTable
@@ -153,4 +273,49 @@ pub extern "C" fn blist_answer(gate: usize, label: u8, table: &[u8]) -> PlainTru
         Answered::Truth(truth) => ended_on(truth),
         Answered::Refused(refusal) => unanswered(refusal),
     }
+}
+
+// Reads what a table says of itself as a whole: its gates, its label count, and the label that a run starts on.
+#[no_mangle]
+pub extern "C" fn blist_header(table: &[u8]) -> PlainCounts
+    ensures { λ r. ⌜ HeaderRight (now (table .entry)) r ⌝ }
+{
+    match run::header_read(table) {
+        HeaderRead::Header(header) => counted(header),
+        HeaderRead::Refused(refusal) => uncounted(refusal),
+    }
+}
+
+// Reads the record of a gate.
+#[no_mangle]
+pub extern "C" fn blist_gate(table: &[u8], gate: usize) -> PlainRecord
+    ensures { λ r. ⌜ GateRight (now (table .entry)) gate r ⌝ }
+{
+    match run::gate_read(table, gate) {
+        GateRead::Record(record) => recorded(record),
+        GateRead::Refused(refusal) => unrecorded(refusal),
+    }
+}
+
+// Reads the labels of the two ends.
+#[no_mangle]
+pub extern "C" fn blist_ends(table: &[u8]) -> PlainEnds
+    ensures { λ r. ⌜ EndsRight (now (table .entry)) r ⌝ }
+{
+    let gates = match run::header_read(table) {
+        HeaderRead::Refused(refusal) => return unending(refusal),
+        HeaderRead::Header(header) => header.gates,
+    };
+    match run::end_read(table, gates as usize) {
+        EndRead::Record(end) => ending(end),
+        EndRead::Refused(refusal) => unending(refusal),
+    }
+}
+
+// The version of this library, which the header's macros repeat.
+#[no_mangle]
+pub extern "C" fn blist_version() -> u32
+    ensures { λ r. ⌜ r ≡ version ⌝ }
+{
+    10000
 }

@@ -1,9 +1,9 @@
--- `viewer::blist_feed` meets its contract: each arm makes the fields of the value that the proved feed answered, and a refusal
+-- `blist::blist_feed` meets its contract: each arm makes the fields of the value that the proved feed answered, and a refusal
 -- keeps the gate number and the label handed in. Assumes nothing.
 use borrow.Author.Needs.{needs}
-use Rattle.viewer.proofs.Carried.{feed-carried}
-use Rattle.viewer.proofs.blist_feed.Statement.{statement}
-use Rattle.viewer.proofs.blist_feed.Tie as tie
+use Rattle.blist.proofs.Carried.{feed-carried}
+use Rattle.blist.proofs.blist_feed.Statement.{statement}
+use Rattle.blist.proofs.blist_feed.Tie as tie
 
 feed-requires : tie.Need-feed-requires
 feed-requires c κs = search needs

@@ -1,9 +1,9 @@
--- `viewer::blist_compile` meets its contract: each arm makes the fields of the value that the proved compile answered, over the
+-- `blist::blist_compile` meets its contract: each arm makes the fields of the value that the proved compile answered, over the
 -- buffer as it left it. Assumes nothing.
 use borrow.Author.Needs.{needs}
-use Rattle.viewer.proofs.Carried.{compile-carried}
-use Rattle.viewer.proofs.blist_compile.Statement.{statement}
-use Rattle.viewer.proofs.blist_compile.Tie as tie
+use Rattle.blist.proofs.Carried.{compile-carried}
+use Rattle.blist.proofs.blist_compile.Statement.{statement}
+use Rattle.blist.proofs.blist_compile.Tie as tie
 
 compile-requires : tie.Need-compile-requires
 compile-requires c κs = search needs
@@ -25,14 +25,16 @@ same-length c = search needs
 
 returns : tie.Need-returns
 returns c =
-    compile-carried (c .before .before .before .before .before .before .compile .ensures) _ (c .before .before .length .given .1) (c .table-fields .ensures)
+    let at-compile = c .before .before .before .before .before .before in
+    compile-carried (at-compile .compile .ensures) _ (c .before .before .length .given .1) (c .table-fields .ensures)
 
 same-length-2 : tie.Need-same-length-2
 same-length-2 c = search needs
 
 returns-2 : tie.Need-returns-2
 returns-2 c =
-    compile-carried (c .before .before .before .before .before .before .compile .ensures) _ (c .before .before .refusal .given .1) (c .table-fields2 .ensures)
+    let at-compile = c .before .before .before .before .before .before in
+    compile-carried (at-compile .compile .ensures) _ (c .before .before .refusal .given .1) (c .table-fields2 .ensures)
 
 pub blist-compile-spec : {M : Type 1} → statement M
 blist-compile-spec =

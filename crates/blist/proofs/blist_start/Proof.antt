@@ -1,8 +1,8 @@
--- `viewer::blist_start` meets its contract: each arm makes the fields of the value that the proved start answered. Assumes nothing.
+-- `blist::blist_start` meets its contract: each arm makes the fields of the value that the proved start answered. Assumes nothing.
 use borrow.Author.Needs.{needs}
-use Rattle.viewer.proofs.Carried.{start-carried}
-use Rattle.viewer.proofs.blist_start.Statement.{statement}
-use Rattle.viewer.proofs.blist_start.Tie as tie
+use Rattle.blist.proofs.Carried.{start-carried}
+use Rattle.blist.proofs.blist_start.Statement.{statement}
+use Rattle.blist.proofs.blist_start.Tie as tie
 
 start-requires : tie.Need-start-requires
 start-requires c κs = search needs
