@@ -1,86 +1,91 @@
--- The demands, each theorem under the sentence that it proves, over the definitions alone. `Accepted text room e table` says that
--- the text derives e and that compiling it answers that table. Assumes nothing.
-use Prim.Native.Nat.{ℕ, zero, suc, _+_, _-_, _*_, _^_, _≤_, _<_}
-use mathlib.Core.Path.{_≡_, refl, sym, ap, _∙_, subst}
+-- The demands, each theorem under the sentence that it proves, over the definitions alone; what the code's own answers are is in
+-- EntryPoints.antt and WholeWay.antt. Assumes nothing.
+use Prim.Native.Nat.{ℕ, suc, _+_, _-_, _*_, _^_, _≤_, _<_}
+use mathlib.Core.Path.{_≡_, refl}
 use mathlib.Core.Logic.{_↔_, _≢_}
-use mathlib.Core.Bool.{Bool, true, false}
+use mathlib.Core.Bool.{Bool}
 use mathlib.Core.List.{List, [], _∷_, map}
-use native.Mathlib.Omega.{arith}
-use lib.ListN.{length}
-use lib.Pow.{pow-pos}
-use Rattle.terms.specs.Terms.{Label, first-label, in-range}
-use Rattle.terms.specs.Answer.{Answer, result, refused}
-use Rattle.formula.specs.Formula.{Expr, literals, value}
+use lib.ListN.{length, getD}
+use Rattle.terms.specs.Terms.{Label, first-label}
+use Rattle.terms.specs.Answer.{result, refused}
+use Rattle.terms.specs.Rows.{FirstOf, NoneOf}
+use Rattle.formula.specs.Formula.{Expr, literals, operators, value}
 use Rattle.formula.specs.Typed.{Typed, numbers, typed-value, positive}
-use Rattle.formula.specs.Occurrences.{occurrences, times-of, truth-at}
-use Rattle.formula.proofs.Occurrences.{times-positive}
+use Rattle.formula.specs.Occurrences.{times-of, truth-at}
+use Rattle.formula.proofs.Marks.{literals-operators}
 use Rattle.formula.proofs.Values.{value-positive}
-use Rattle.text.specs.Grammar.{Derives}
-use Rattle.text.specs.Reader.{Reading, means, read}
-use Rattle.text.specs.Rows.{NotASum}
-use Rattle.text.proofs.Complete.{read-complete, derives-unique}
-use Rattle.text.proofs.Sound.{read-sound}
-use Rattle.text.proofs.Longest.{read-stops, stops-read}
-use Rattle.turning.specs.Tags.{price, greatest}
-use Rattle.turning.specs.Turning.{marks, turned}
+use Rattle.grammar.specs.Grammar.{Derives}
+use Rattle.grammar.specs.twins.Reader.{Outcome, means, read}
+use Rattle.grammar.specs.Rows.{NotASum}
+use Rattle.grammar.proofs.Complete.{read-complete, derives-unique}
+use Rattle.grammar.proofs.Sound.{read-sound}
+use Rattle.grammar.proofs.Longest.{read-stops, stops-read}
+use Rattle.turning.specs.Tags.{Tag, price, row, greatest}
+use Rattle.turning.specs.Turning.{turned}
+use Rattle.turning.proofs.Rows.{times-row, length-row}
 use Rattle.turning.proofs.Turned.{value-turned}
-use Rattle.weaving.specs.Gates.{gates, gates-from, true-end, false-end}
+use Rattle.weaving.specs.Gates.{in-order, gates, true-end, false-end}
+use Rattle.weaving.specs.twins.Gates.{gates-from}
 use Rattle.weaving.specs.Awaited.{most-awaited}
-use Rattle.weaving.specs.Labels.{Woven, weave}
-use Rattle.weaving.specs.Following.{label-named}
-use Rattle.weaving.proofs.Places as places
-use Rattle.weaving.proofs.Ends.{true-label-first, ends-differ}
-use Rattle.weaving.proofs.Range.{labels-named}
-use Rattle.weaving.proofs.Width.{label-count-awaited}
-use Rattle.table.specs.Layout.{E, table-length, Header, header-of, EndFields, end-of}
-use Rattle.table.specs.WellFormed.{WellFormed}
-use Rattle.table.proofs.Tested.{well-formed-told}
-use Rattle.compiler.specs.Compiled.{table-of, compiled}
-use Rattle.compiler.specs.Rows.{Row, Refusing}
-use Rattle.compiler.proofs.LabelCount.{label-count-greatest}
-use Rattle.compiler.proofs.Refusals as refusals
-use Rattle.compiler.proofs.Tables.{length-written, labels-said, gates-said, end-written, table-well-formed}
-use Rattle.run.specs.Run.{Run, started, whole-run}
-use Rattle.promises.specs.Words.{Accepted, arrangement, gate-of-each, Enough}
-use Rattle.promises.proofs.Accepted as accepted
-use Rattle.promises.proofs.Accepted.{label-count-enough, literals-arrangement}
+use Rattle.weaving.specs.Labels.{weave}
+use Rattle.weaving.proofs.Places.{gates-told}
+use Rattle.table.specs.Layout.{header-of, end-of}
+use Rattle.table.specs.WellFormed.{InRange, WellFormed}
+use Rattle.compiler.specs.Compiled.{table-of}
+use Rattle.compiler.specs.twins.Compiling.{compiled}
+use Rattle.compiler.specs.Rows.{compile-rows}
+use Rattle.compiler.proofs.Refusals.{compiled-refused-by}
+use Rattle.run.specs.Whole.{whole-run}
+use Rattle.run.specs.twins.Answers.{started}
+use Rattle.listing.specs.Lines.{decimal}
+use Rattle.listing.specs.Numerals.{Numeral}
+use Rattle.listing.proofs.Numerals.{decimal-numeral}
+use Rattle.promises.specs.Words.{Accepted, gate-of-each, Enough, typed-numbers, Asks, Names}
+use Rattle.promises.proofs.laws.Accepted as accepted
+use Rattle.promises.proofs.laws.Asked.{occurrence-once, numbers-in-order}
+use Rattle.promises.proofs.laws.Meant.{has-meaning, some-accepted}
+use Rattle.promises.proofs.laws.Named.{named}
+use Rattle.promises.proofs.laws.Falling.{row-falls}
+use Rattle.promises.proofs.laws.Said as said
 
--- DEMAND 1, the text. "answers a result or one numbered refusal with a place, in the order that document 01 fixes"
+-- DEMAND 1. "Expression text and table bytes may hold anything at all. Every entry point ends, stays inside its buffers and answers
+-- either a result or one numbered refusal with a place, in the order document 01 fixes; a refused compile has written nothing, and a
+-- refused step hands its run back unchanged." That each function ends and stays inside its buffers is what it is for a crate to be
+-- proved; what the entry points answer and leave in the buffer is in EntryPoints.antt. Here: what they compute.
 
--- The executable reader accepts exactly the texts that derive an expression by the grammar.
-pub reads-what-derives : (text : List ℕ) (e : Typed) → (read text ≡ means e) ↔ Derives text e
-reads-what-derives text e = (read-sound, read-complete)
+-- "Every refusal is given exactly when its row says": it is the first of the rows, in the order in which they are tested.
+pub refused-exactly : (text : List ℕ) (room r at : ℕ) → (compiled text room ≡ refused r at) ↔ FirstOf (compile-rows text room) r at
+refused-exactly = compiled-refused-by
 
--- The expression is the only one.
+-- "and answers a table whenever none of them holds": then the text has a meaning by the grammar and is accepted with it,
+pub answers-whenever : (text : List ℕ) (room : ℕ) → ((table : List ℕ) × (e : Typed) × Accepted text room e table) ↔ NoneOf (compile-rows text room)
+answers-whenever = some-accepted
+
+-- as is every text for which a table is answered;
+pub accepted-means : {text table : List ℕ} {room : ℕ} → compiled text room ≡ result table → (e : Typed) × Accepted text room e table
+accepted-means = has-meaning
+
+-- and it is the only one.
 pub one-meaning : {text : List ℕ} {a b : Typed} → Derives text a → Derives text b → a ≡ b
 one-meaning = derives-unique
 
--- "length of the longest beginning that some ending would complete"
-pub stops-at-the-longest : (text : List ℕ) (p : ℕ) → (read text ≡ Reading.stops p) ↔ NotASum text p
+-- The executable reader accepts exactly the texts that derive an expression, and stops at the
+-- "length of the longest beginning that some ending would complete, limits set aside".
+pub reads-what-derives : (text : List ℕ) (e : Typed) → (read text ≡ means e) ↔ Derives text e
+reads-what-derives text e = (read-sound, read-complete)
+
+pub stops-at-the-longest : (text : List ℕ) (p : ℕ) → (read text ≡ Outcome.stops p) ↔ NotASum text p
 stops-at-the-longest text p = (read-stops, stops-read)
 
--- "Every refusal is given exactly when its row says", and no earlier row holds.
-pub refused-exactly : (text : List ℕ) (room r at : ℕ) → (compiled text room ≡ refused r at) ↔ Refusing text room r at
-refused-exactly text room r at = refusals.compiled-is text room (refused r at)
+-- THE WAY FROM TEXT TO TABLE, for every expression.
 
--- "and answers a table whenever none of them holds"
-pub answers-whenever : (text : List ℕ) (room : ℕ) → ((r at : ℕ) → ¬ Row text room r at) → (table : List ℕ) × (compiled text room ≡ result table)
-answers-whenever = refusals.answered-whenever
+-- "Left and right keep their sides.": the literals of the positive form are the numbers as typed, in their order.
+pub sides-kept : (e : Typed) → map (λ x. x .primitive) (in-order (positive 0 e)) ≡ typed-numbers e
+sides-kept e = numbers-in-order 0 e
 
--- DEMAND 2. "The table is byte for byte the one that Rossignac's Optimized Blist Form gives, as document 01 reads it."
-pub table-of-the-turned : {text table : List ℕ} {room : ℕ} {e : Typed} → Accepted text room e table → table ≡ table-of (weave (turned (positive 0 e)))
-table-of-the-turned a = accepted.table-is a
-
--- "Fed one truth per gate it ends true exactly when the expression is true for those truths, even if two occurrences of one
--- primitive get different truths." Starting, feeding them all and asking never refuses; each occurrence has the truth of its gate.
-pub ends-as-typed : {text table : List ℕ} {room : ℕ} {e : Typed} → Accepted text room e table → (truths : List Bool) → length truths ≡ numbers e
-    → whole-run table truths ≡ result (typed-value (truth-at (gate-of-each e) truths) 0 e)
-ends-as-typed a = accepted.run-typed a
-
--- Every occurrence is exactly one gate, so no row of truths is left out.
-pub one-gate-each : (e : Typed) (i : ℕ) → i < numbers e → times-of i (gate-of-each e) ≡ 1
-unfolding turned
-one-gate-each e i h = times-positive i (marks (positive 0 e)) e h
+-- "n literals have n-1 operators"
+pub one-operator-less : (e : Expr) → literals e ≡ suc (operators e)
+one-operator-less = literals-operators
 
 -- Positive form and turning keep the value under every truth of the occurrences.
 pub positive-keeps-value : (truth : ℕ → Bool) (e : Typed) → value truth (positive 0 e) ≡ typed-value truth 0 e
@@ -89,86 +94,93 @@ positive-keeps-value truth e = value-positive truth 0 e
 pub turning-keeps-value : (truth : ℕ → Bool) (e : Expr) → value truth (turned e) ≡ value truth e
 turning-keeps-value = value-turned
 
+-- "The three costs are put in order, largest first": a row has three, has each cost as often as the tag has it, and falls.
+pub rows-have-three : (t : Tag) → length (row t) ≡ 3
+rows-have-three = length-row
+
+pub rows-hold-the-costs : (i : ℕ) (t : Tag) → times-of i (row t) ≡ times-of i (t .c1 ∷ t .c2 ∷ t .c3 ∷ [])
+rows-hold-the-costs = times-row
+
+pub rows-fall : (t : Tag) (k : ℕ) → getD (row t) (suc k) 0 ≤ getD (row t) k 0
+rows-fall = row-falls
+
 -- The page's reading of places and the recursive one give the same gates.
 pub places-by-recursion : (e : Expr) → gates e ≡ gates-from e 0 (true-end (literals e)) (false-end (literals e))
-places-by-recursion = places.gates-told
+places-by-recursion = gates-told
 
--- "A table is one `H`, n gates, one `E`: 6n + 7 bytes", and well formed, so a start never refuses it.
-pub table-as-long : {text table : List ℕ} {room : ℕ} {e : Typed} → Accepted text room e table → length table ≡ table-length (numbers e)
-table-as-long {e = e} a =
-    ap length (accepted.table-is a)
-    ∙ length-written (arrangement e) (accepted.arrangement-small a) (accepted.literals-few a)
-    ∙ ap (λ (n : ℕ). table-length n) (literals-arrangement e)
+-- Every occurrence is exactly one gate, so no row of truths is left out.
+pub one-gate-each : (e : Typed) (i : ℕ) → i < numbers e → times-of i (gate-of-each e) ≡ 1
+one-gate-each = occurrence-once
 
-pub table-formed : {text table : List ℕ} {room : ℕ} {e : Typed} → Accepted text room e table → WellFormed table
-table-formed {e = e} a =
-    rw (accepted.table-is a) (table-well-formed (arrangement e) (accepted.arrangement-small a) (accepted.literals-few a) (accepted.labels-few a))
+-- A decimal that the listing prints is one or more digits, says its number, and has no leading zero.
+pub decimals-say-their-number : (n : ℕ) → Numeral n (decimal n)
+decimals-say-their-number = decimal-numeral
 
-pub never-refused-at-start : {text table : List ℕ} {room : ℕ} {e : Typed} → Accepted text room e table
-    → started table ≡ result (record { gate = 0; label = first-label })
-unfolding started
-never-refused-at-start {table = table} a = rw (well-formed-told table .1 (table-formed a))
-
--- DEMAND 3. "The number of labels equals the most places awaited after any one gate, counted from the turned expression alone"
-pub labels-are-awaited : {text table : List ℕ} {room : ℕ} {e : Typed} → Accepted text room e table
-    → header-of table .labels ≡ most-awaited (gates (turned (positive 0 e)))
-labels-are-awaited {e = e} a =
-    ap (λ (t : List ℕ). header-of t .labels) (accepted.table-is a)
-    ∙ labels-said (arrangement e) (accepted.arrangement-small a) (accepted.literals-few a)
-    ∙ label-count-awaited (arrangement e)
-
--- It is the greatest cost of the root's tag,
-pub labels-are-the-greatest-cost : {text table : List ℕ} {room : ℕ} {e : Typed} → Accepted text room e table
-    → header-of table .labels ≡ greatest (price (turned (positive 0 e)))
-labels-are-the-greatest-cost {e = e} a =
-    labels-are-awaited a ∙ sym (label-count-awaited (arrangement e)) ∙ label-count-greatest (arrangement e)
-
--- and the records and `E` name exactly so many labels, those from the first one on: every label is below the count.
-pub labels-are-named : {text table : List ℕ} {room : ℕ} {e : Typed} → Accepted text room e table → (l : Label)
-    → label-named l (weave (turned (positive 0 e))) ≡ in-range (header-of table .labels) l
-labels-are-named {e = e} a l =
-    labels-named (arrangement e) l
-    ∙ ap (λ (n : ℕ). in-range n l) (label-count-awaited (arrangement e) ∙ sym (labels-are-awaited a))
-
--- "and is never above the least whole j with 3·2^j ≥ 2n + 6": it is at most every such j.
-pub labels-within-the-bound : {text table : List ℕ} {room : ℕ} {e : Typed} → Accepted text room e table → (j : ℕ) → Enough (numbers e) j
-    → header-of table .labels ≤ j
-labels-within-the-bound {e = e} a j enough =
-    subst (λ (n : ℕ). n ≤ j) (label-count-awaited (arrangement e) ∙ sym (labels-are-awaited a)) (label-count-enough e j enough)
-
--- "2 labels suffice to 3 literals, 3 to 9, 4 to 21, 5 to 45, 6 to 93, 7 to 189, 8 to 381, 9 to 765, 10 to 1,533"
+-- "2 labels suffice to 3 literals, 3 to 9, 4 to 21, 5 to 45, 6 to 93, 7 to 189, 8 to 381, 9 to 765, 10 to 1,533."
 pub numbers-of-the-bound : map (λ (c : ℕ). 3 * 2 ^ (c - 1) - 3) (2 ∷ 3 ∷ 4 ∷ 5 ∷ 6 ∷ 7 ∷ 8 ∷ 9 ∷ 10 ∷ [])
     ≡ 3 ∷ 9 ∷ 21 ∷ 45 ∷ 93 ∷ 189 ∷ 381 ∷ 765 ∷ 1533 ∷ []
 numbers-of-the-bound = refl
 
--- c labels suffice up to 3·2^(c-1) - 3 literals
-pub labels-suffice : {text table : List ℕ} {room : ℕ} {e : Typed} → Accepted text room e table → (c : ℕ) → 2 ≤ c → numbers e ≤ 3 * 2 ^ (c - 1) - 3
-    → header-of table .labels ≤ c
-labels-suffice a zero two h = absurd (omega arith)
-labels-suffice a (suc d) two h =
-    let e : suc d - 1 ≡ d = omega arith in
-    let k = rw e at h in
-    labels-within-the-bound a (suc d) (omega (arith, pow-pos d))
+-- EVERY ACCEPTED TEXT: it derives e, and compiling it with that room answers the table.
+module _ {text table : List ℕ} {room : ℕ} {e : Typed} (a : Accepted text room e table) where
+  -- DEMAND 2. "The table is byte for byte the one that Rossignac's Optimized Blist Form gives for the expression, as document 01
+  -- reads it."
+  pub table-of-the-turned : table ≡ table-of (weave (turned (positive 0 e)))
+  table-of-the-turned = accepted.table-is a
 
--- so ten labels are enough for every accepted text
-pub ten-labels-at-most : {text table : List ℕ} {room : ℕ} {e : Typed} → Accepted text room e table → header-of table .labels ≤ 10
-ten-labels-at-most a = labels-within-the-bound a 10 (omega (arith, accepted.numbers-few a))
+  -- "Fed one truth per gate, every accepted expression's table ends true exactly when the expression is true for those truths, even
+  -- if two occurrences of one primitive are given different truths." Each occurrence has the truth of its gate, and nothing on the
+  -- way is refused.
+  pub ends-as-typed : (truths : List Bool) → length truths ≡ numbers e
+      → whole-run table truths ≡ result (typed-value (truth-at (gate-of-each e) truths) 0 e)
+  ends-as-typed = accepted.run-typed a
 
--- "True always carries label 0", and False another.
-pub end-said : {text table : List ℕ} {room : ℕ} {e : Typed} → Accepted text room e table
-    → end-of table (numbers e)
-    ≡ record { kind = E; on-true = weave (turned (positive 0 e)) .true-label; on-false = weave (turned (positive 0 e)) .false-label }
-end-said {e = e} a =
-    ap (λ (t : List ℕ). end-of t (numbers e)) (accepted.table-is a)
-    ∙ ap (end-of (table-of (weave (arrangement e)))) (sym (literals-arrangement e))
-    ∙ end-written (arrangement e) (accepted.arrangement-small a) (accepted.literals-few a)
+  -- Gate k asks for the number that its occurrence has in the text, plain or complemented as the complements above it and a `-`
+  -- before it say.
+  pub gate-asks-for-its-number : Asks table e
+  gate-asks-for-its-number = said.asking a
 
-pub true-carries-the-first : {text table : List ℕ} {room : ℕ} {e : Typed} → Accepted text room e table
-    → end-of table (numbers e) .on-true ≡ first-label
-true-carries-the-first {e = e} a = ap (λ (x : EndFields). x .on-true) (end-said a) ∙ true-label-first (arrangement e)
+  -- "A table is one `H`, n gates, one `E`: 6n + 7 bytes.", and well formed, so a start never refuses it.
+  pub table-as-long : length table ≡ 6 * numbers e + 7
+  table-as-long = said.long a
 
-pub false-carries-another : {text table : List ℕ} {room : ℕ} {e : Typed} → Accepted text room e table
-    → end-of table (numbers e) .on-false ≢ first-label
-false-carries-another {e = e} a same =
-    ends-differ (arrangement e)
-    (true-label-first (arrangement e) ∙ sym same ∙ ap (λ (x : EndFields). x .on-false) (end-said a))
+  pub as-many-gates : header-of table .gates ≡ numbers e
+  as-many-gates = said.as-many a
+
+  pub table-formed : WellFormed table
+  table-formed = said.formed a
+
+  pub never-refused-at-start : started table ≡ result (record { gate = 0; label = first-label })
+  never-refused-at-start = said.starts a
+
+  -- DEMAND 3. "For every accepted expression of n literals, the number of labels in its table equals the most places still awaited
+  -- after any one gate, the last included, counted from the turned expression alone."
+  pub labels-are-awaited : header-of table .labels ≡ most-awaited (gates (turned (positive 0 e)))
+  labels-are-awaited = said.labels-awaited a
+
+  -- It is the greatest cost of the root's tag,
+  pub labels-are-the-greatest-cost : header-of table .labels ≡ greatest (price (turned (positive 0 e)))
+  labels-are-the-greatest-cost = said.labels-priced a
+
+  -- and the table's records name exactly so many labels, those from the first one on.
+  pub labels-are-named : (l : Label) → Names table l ↔ InRange (header-of table .labels) l
+  labels-are-named = named a
+
+  -- "That number is never above the least whole j for which 3 times 2 to the j is at least 2n + 6.": it is at most every such j,
+  pub labels-within-the-bound : (j : ℕ) → Enough (numbers e) j → header-of table .labels ≤ j
+  labels-within-the-bound = said.labels-bounded a
+
+  -- c labels suffice up to 3·2^(c-1) - 3 literals,
+  pub labels-suffice : (c : ℕ) → 2 ≤ c → numbers e ≤ 3 * 2 ^ (c - 1) - 3 → header-of table .labels ≤ c
+  labels-suffice = said.labels-sufficing a
+
+  -- and ten are enough for every accepted text.
+  pub ten-labels-at-most : header-of table .labels ≤ 10
+  ten-labels-at-most = said.ten-labels a
+
+  -- "True always carries label 0.", and False another.
+  pub true-carries-the-first : end-of table (numbers e) .on-true ≡ first-label
+  true-carries-the-first = said.true-first a
+
+  pub false-carries-another : end-of table (numbers e) .on-false ≢ first-label
+  false-carries-another = said.false-other a

@@ -1,11 +1,11 @@
+pub mod laws
 pub mod Examples
 pub mod Slips
 pub mod Neighbours
-pub mod Runs
-pub mod Accepted
+pub mod Controls
 pub mod Demands
-pub mod Driving
 pub mod WrongPrograms
 pub mod Never
 pub mod EntryPoints
+pub mod Library
 pub mod WholeWay

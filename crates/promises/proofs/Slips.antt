@@ -1,25 +1,10 @@
 -- Each slip gives another table or count than the page: the definitions compute both. Assumes nothing.
-use mathlib.Core.Path.{_≡_, refl}
-use Rattle.terms.specs.First.{first-from}
-use Rattle.formula.specs.Formula.{literals, operators, value}
-use Rattle.formula.specs.Typed.{numbers, positive}
-use Rattle.formula.specs.Marks.{arranged}
-use Rattle.text.specs.Bytes.{sign-of, numeral-from}
-use Rattle.text.specs.Reader.{complemented, read-from, read}
-use Rattle.text.specs.Places.{leading-digits, opened, shut, runs-before}
-use Rattle.text.specs.Reading.{typed-reading, reading}
-use Rattle.turning.specs.Tags.{price, inserted, row, smaller}
-use Rattle.turning.specs.Turning.{marks, turned}
-use Rattle.weaving.specs.Gates.{in-order, holders, lowest, gate-at, gates-on, gates}
-use Rattle.weaving.specs.Labels.{has-label, slot-of, give-back, hand-out, labelled, step, records, stored, weave}
-use Rattle.table.specs.Faults.{table-fault}
-use Rattle.compiler.specs.Compiled.{all-records, table-of, finished, compiled}
-use Rattle.run.specs.Run.{started, fed, answered, fed-all, whole-run}
-use Rattle.promises.specs.Texts.{bytes}
-use Rattle.promises.specs.Slips.{turned-by, stored-by, in-pile, pile-label, without, piled, seen-in, merged, NoSlip}
+use mathlib.Core.Path.{refl}
+use Rattle.promises.proofs.laws.Computing.{computing}
+use Rattle.promises.specs.examples.Slips.{turned-by, stored-by, lowest-on-top, in-pile, pile-label, without, piled-by, seen-in, kept-by, NoSlip}
 
 pub slips-excluded : NoSlip
-unfolding first-from literals operators value numbers positive arranged sign-of numeral-from complemented read-from read leading-digits opened shut runs-before typed-reading reading price inserted row smaller marks turned in-order holders lowest gate-at gates-on gates has-label slot-of give-back hand-out labelled step records stored weave table-fault all-records table-of finished compiled started fed answered fed-all whole-run bytes turned-by stored-by in-pile pile-label without piled seen-in merged
+unfolding computing turned-by stored-by lowest-on-top in-pile pile-label without piled-by seen-in kept-by
 slips-excluded =
     record {
       figure-16-needs-three = refl;
@@ -35,6 +20,7 @@ slips-excluded =
       occurrences-differ = refl;
       lowest-free-order = refl;
       lowest-free-false = refl;
+      lowest-on-top-false = refl;
       last-returned-false = refl;
       three-costs-order = refl;
       two-largest-order = refl;

@@ -1,69 +1,49 @@
 -- Programs that no contract lets through: a compiler that refuses everything, writes one fixed table, writes nothing, or invents a
 -- label count; and a run that honours its first feed and then only counts gates. Assumes nothing.
-use Prim.Native.Nat.{ℕ, _≤_}
-use mathlib.Core.Path.{_≡_, refl, sym, ap, _∙_, subst}
-use mathlib.Core.Logic.{_≢_}
-use mathlib.Core.Bool.{Bool, true, false}
-use mathlib.Core.List.{List, [], _∷_, _++_}
+use Prim.Native.Nat.{ℕ}
+use mathlib.Core.Path.{_≡_, refl, sym, ap, _∙_}
+use mathlib.Core.Bool.{Bool, true, false, true≢false}
+use mathlib.Core.List.{List, [], _∷_}
 use native.Mathlib.Omega.{arith}
-use lib.ListN.{length, getD, take, drop, replicate}
-use lib.Seq.{take-append-seam}
+use lib.ListN.{getD, take, replicate}
 use Rattle.terms.specs.declared.Refusal.{Refusal}
 use Rattle.terms.specs.Answer.{Answer, result, refused}
-use Rattle.formula.specs.Typed.{Typed, positive, numbers}
-use Rattle.text.specs.Grammar.{Derives}
-use Rattle.turning.specs.Turning.{turned, marks}
-use Rattle.weaving.specs.Gates.{gates, in-order, holders, lowest, gate-at, gates-on}
+use Rattle.formula.specs.Typed.{Typed, number, times, positive}
+use Rattle.grammar.specs.Grammar.{Derives}
+use Rattle.grammar.proofs.Sound.{read-sound}
+use Rattle.turning.specs.Turning.{turned}
+use Rattle.weaving.specs.Gates.{gates}
 use Rattle.weaving.specs.Awaited.{most-awaited}
-use Rattle.table.specs.Layout.{Header, header-of}
+use Rattle.table.specs.Layout.{header-of}
 use Rattle.compiler.specs.declared.Compiled.{Compiled}
-use Rattle.compiler.specs.Compiled.{compiled, written, all-records, table-of, finished}
-use Rattle.compiler.specs.Shown.{shown-compiled, length-of, CompiledRight}
+use Rattle.compiler.specs.Compiled.{written}
+use Rattle.compiler.specs.twins.Compiling.{compiled}
+use Rattle.compiler.specs.Shown.{length-of, CompiledRight}
 use Rattle.run.specs.declared.Fed.{Fed}
-use Rattle.run.specs.Run.{Run, fed, started, answered, fed-all, whole-run}
+use Rattle.run.specs.Run.{Run}
 use Rattle.run.specs.Shown.{FedRight}
-use Rattle.promises.specs.Texts.{bytes}
+use Rattle.terms.specs.Texts.{bytes}
+use Rattle.promises.proofs.laws.Computing.{computing}
 use Rattle.promises.specs.Words.{Accepted}
+use Rattle.promises.specs.examples.Counting.{fed-by, run-by, only-counting, EndsAsTyped}
+use Rattle.promises.proofs.laws.Meant.{right-is-accepted}
 use Rattle.promises.proofs.Demands.{labels-are-awaited}
-use Rattle.terms.specs.First.{first-from}
-use Rattle.formula.specs.Formula.{literals, operators, value}
-use Rattle.formula.specs.Marks.{arranged}
-use Rattle.text.specs.Bytes.{sign-of, numeral-from}
-use Rattle.text.specs.Reader.{complemented, read-from, read}
-use Rattle.text.specs.Places.{leading-digits, opened, shut, runs-before}
-use Rattle.text.specs.Reading.{typed-reading, reading}
-use Rattle.turning.specs.Tags.{price, inserted, row, smaller}
-use Rattle.weaving.specs.Labels.{has-label, slot-of, give-back, hand-out, labelled, step, records, stored, weave}
-use Rattle.table.specs.Faults.{table-fault}
 
--- a right answer with a table in the buffer is an accepted text
-accepted-of : (text before after : List ℕ) (n : ℕ) {e : Typed} (a : Answer (List ℕ)) → compiled text (length before) ≡ a → Derives text e
-    → result n ≡ length-of a → after ≡ written a before → Accepted text (length before) e (take n after)
-accepted-of text before after n (result table) is derives answer buffer =
-    let long : n ≡ length table = cc in
-    let front : take n after ≡ table = rw (buffer, long) (take-append-seam table (drop (length table) before)) in
-    record { answers = rw front is; means = derives }
-accepted-of text before after n (refused r p) is derives answer buffer = let z : _≡_ {A = ℕ} 0 1 = cc in absurd (omega arith)
-
-pub right-is-accepted : {text before after : List ℕ} {n : ℕ} {e : Typed} → CompiledRight text before after (Compiled.Table n) → Derives text e
-    → Accepted text (length before) e (take n after)
-right-is-accepted {text} {before} {after} {n} right derives = accepted-of text before after n (compiled text (length before)) refl derives (right .answer) (right .buffer)
-
--- "a header with an invented label count"
-pub no-invented-count : {text before after : List ℕ} {n : ℕ} {e : Typed} → CompiledRight text before after (Compiled.Table n) → Derives text e
-    → header-of (take n after) .labels ≡ most-awaited (gates (turned (positive 0 e)))
-no-invented-count right derives = labels-are-awaited (right-is-accepted right derives)
+-- "a header with an invented label count": the awaited places of the expression say it
+pub no-invented-count : {text before after : List ℕ} {n : ℕ} → CompiledRight text before after (Compiled.Table n)
+    → (e : Typed) × Derives text e × (header-of (take n after) .labels ≡ most-awaited (gates (turned (positive 0 e))))
+no-invented-count right = let a = right-is-accepted right in (a .0, a .1 .means, labels-are-awaited (a .1))
 
 -- a buffer of thirteen noughts, which has room for the table of one literal
 abbrev noughts : List ℕ
 noughts = replicate 13 0
 
 five : compiled (bytes "5") 13 ≡ result (72 ∷ 1 ∷ 0 ∷ 2 ∷ 80 ∷ 5 ∷ 0 ∷ 0 ∷ 0 ∷ 1 ∷ 69 ∷ 0 ∷ 1 ∷ [])
-unfolding first-from literals operators value numbers positive arranged sign-of numeral-from complemented read-from read leading-digits opened shut runs-before typed-reading reading price inserted row smaller marks turned in-order holders lowest gate-at gates-on gates has-label slot-of give-back hand-out labelled step records stored weave table-fault all-records table-of finished compiled started fed answered fed-all whole-run bytes
+unfolding computing
 five = refl
 
 six : compiled (bytes "6") 13 ≡ result (72 ∷ 1 ∷ 0 ∷ 2 ∷ 80 ∷ 6 ∷ 0 ∷ 0 ∷ 0 ∷ 1 ∷ 69 ∷ 0 ∷ 1 ∷ [])
-unfolding first-from literals operators value numbers positive arranged sign-of numeral-from complemented read-from read leading-digits opened shut runs-before typed-reading reading price inserted row smaller marks turned in-order holders lowest gate-at gates-on gates has-label slot-of give-back hand-out labelled step records stored weave table-fault all-records table-of finished compiled started fed answered fed-all whole-run bytes
+unfolding computing
 six = refl
 
 -- "a compiler that refuses everything": it would have to refuse `5`
@@ -97,8 +77,24 @@ label-given (refused r p) = 0
 
 -- "a run that honours its first feed and then only counts gates": at gate 1 on label 0 a false truth leads to label 1
 pub no-counting-only : ¬ FedRight (record { gate = 1; label = record { 0 = 0 } }) product-table false (Fed.Run (record { gate = 2; label = record { 0 = 0 } }))
-unfolding fed label-given
+unfolding computing label-given
 no-counting-only right =
     let is : _≡_ {A = Answer Run} (result (record { gate = 2; label = 0 })) (result (record { gate = 2; label = 1 })) = right .shown in
     let same : _≡_ {A = ℕ} 0 1 = ap label-given is in
     omega arith
+
+-- `1*2` is accepted
+product : Typed
+product = times (number 1) (number 2)
+
+product-accepted : Accepted (bytes "1*2") 19 product product-table
+unfolding computing product
+product-accepted = record { answers = refl; means = read-sound refl }
+
+-- and demand 2 shuts that run out by the final truth: with truths 1 and 0 it ends true, where the expression is false
+pub no-counting-run : ¬ EndsAsTyped (run-by only-counting)
+unfolding computing product fed-by run-by
+no-counting-run ends =
+    let is : _≡_ {A = Answer Bool} (result true) (result false) = ends (bytes "1*2") product-table 19 product product-accepted (true ∷ false ∷ []) refl in
+    let same : true ≡ false = cc in
+    true≢false same

@@ -1,5 +1,6 @@
 -- The examples that document 01 marks, each as it stands there.
 --   compiled-to  == a text, and what compiling it answers in a buffer with room enough
+--   expr text    == the positive form of what the text means
 --   AllAsTold    == that every marked example comes out as document 01 says
 --   AlsoAsTold   == some neighbours of them: blanks, a closing too many, openings after early closings
 -- Assumes nothing.
@@ -10,12 +11,14 @@ use mathlib.Core.Bool.{Bool, true, false}
 use mathlib.Core.List.{List, [], _∷_, _++_, map}
 use lib.ListN.{replicate}
 use Rattle.terms.specs.Answer.{Answer, result, refused}
-use Rattle.formula.specs.Formula.{Expr, Kind, union, intersection, join}
+use Rattle.formula.specs.Formula.{Expr, literal, join}
 use Rattle.formula.specs.Typed.{occurs}
-use Rattle.turning.specs.Tags.{Tag, price}
-use Rattle.compiler.specs.Compiled.{compiled}
-use Rattle.run.specs.Run.{whole-run}
-use Rattle.promises.specs.Texts.{bytes}
+use Rattle.grammar.specs.twins.Reading.{reading}
+use Rattle.turning.specs.Tags.{price}
+use Rattle.compiler.specs.twins.Compiling.{compiled}
+use Rattle.run.specs.Whole.{whole-run}
+use Rattle.listing.specs.Lines.{lines, refusal-line}
+use Rattle.terms.specs.Texts.{bytes}
 
 pub record Example : Type 0 where
   pub text : String
@@ -57,25 +60,39 @@ compiled-to =
     ∷ answers "00001" (refused 3 0)
     ∷ []
 
--- `1+2*3` as typed, and with the children of the union exchanged
-abbrev pub one-plus-product : Expr
-one-plus-product = join union (occurs 1 true 0) (join intersection (occurs 2 true 1) (occurs 3 true 2))
+-- the expression that a text means, in positive form
+abbrev pub read-off : Answer Expr → Expr
+read-off (result e) = e
+read-off (refused r p) = occurs 0 true 0
 
-abbrev pub product-plus-one : Expr
-product-plus-one = join union (join intersection (occurs 2 true 1) (occurs 3 true 2)) (occurs 1 true 0)
+abbrev pub expr : String → Expr
+expr text = read-off (reading (bytes text))
+
+-- an operator with its children exchanged
+abbrev pub exchanged : Expr → Expr
+exchanged (literal x) = literal x
+exchanged (join k l r) = join k r l
 
 -- the run over the table of a text
 abbrev pub run-of : Answer (List ℕ) → List Bool → Answer Bool
 run-of (result table) truths = whole-run table truths
 run-of (refused r p) truths = refused r p
 
+-- what the listing program writes of an answer
+abbrev pub listing-of : Answer (List ℕ) → List ℕ
+listing-of (result table) = lines table
+listing-of (refused r p) = refusal-line r p
+
 pub record AllAsTold : Type 0 where
   pub answered : map (λ x. compiled (bytes (x .text)) roomy) compiled-to ≡ map (λ x. x .told) compiled-to
-  -- "`1+2*3`: typed tag false 1 2 3, exchanged false 2 2 2"
-  pub typed-tag : price one-plus-product ≡ record { mark = false; c1 = 1; c2 = 2; c3 = 3 }
-  pub exchanged-tag : price product-plus-one ≡ record { mark = false; c1 = 2; c2 = 2; c3 = 2 }
-  -- "Truths 0, 1, 1, 1 end true."
+  -- "`1+2*3`: typed tag false 1 2 3, exchanged false 2 2 2" (scope 8.1)
+  pub typed-tag : price (expr "1+2*3") ≡ record { mark = false; c1 = 1; c2 = 2; c3 = 3 }
+  pub exchanged-tag : price (exchanged (expr "1+2*3")) ≡ record { mark = false; c1 = 2; c2 = 2; c3 = 2 }
+  -- "Truths 0, 1, 1, 1 end true." (scope 8.1)
   pub ends-true : run-of (compiled (bytes "1*2+3*4") roomy) (false ∷ true ∷ true ∷ true ∷ []) ≡ result true
+  -- "For input `1+2*3` and a newline it writes exactly:" (scope 9)
+  pub listed : listing-of (compiled (bytes "1+2*3\n") roomy)
+      ≡ bytes "gates 3 labels 2\n0 2 + 0 0 1\n1 3 + 0 0 1\n2 1 + 1 0 1\ntrue 0 false 1\n"
 
 -- what the rows say of texts next to the marked ones
 pub record AlsoAsTold : Type 0 where

@@ -1,46 +1,43 @@
 -- What is known of every accepted text: its numbers are small and few, so its table is that of its turned expression, with ten
 -- labels at most. Assumes nothing.
-use Prim.Native.Nat.{ℕ, _+_, _*_, _^_, _≤_}
-use mathlib.Core.Path.{_≡_, refl, sym, ap, ap₂, _∙_, subst}
+use Prim.Native.Nat.{ℕ, _≤_}
+use mathlib.Core.Path.{_≡_, refl, sym, ap, ap₂, _∙_}
 use mathlib.Core.Bool.{Bool}
-use mathlib.Core.List.{List, [], _∷_, _++_, map, map-append}
+use mathlib.Core.List.{List, _++_, map, map-append}
 use native.Mathlib.Omega.{arith}
 use lib.ListN.{length}
-use Rattle.terms.specs.Terms.{first-label, most-literals, most-labels}
-use Rattle.terms.specs.Answer.{Answer, result}
-use Rattle.formula.specs.Formula.{Literal, Expr, literal, join, literals, value}
+use Rattle.terms.specs.Terms.{most-literals, most-labels}
+use Rattle.terms.specs.Answer.{result}
+use Rattle.terms.specs.Rows.{NoneOf}
+use Rattle.formula.specs.Formula.{Expr, literal, join, literals, value}
 use Rattle.formula.specs.Typed.{Typed, numbers, typed-value, positive}
 use Rattle.formula.specs.Occurrences.{occurrences, truth-at}
 use Rattle.formula.proofs.Occurrences.{literals-positive}
 use Rattle.formula.proofs.Small.{SmallPrimitives, small-positive, small-arranged}
 use Rattle.formula.proofs.Truths.{truths-given}
 use Rattle.formula.proofs.Values.{value-positive}
-use Rattle.text.specs.Grammar.{Derives}
-use Rattle.text.specs.Rows.{row-3, row-6}
-use Rattle.text.proofs.Complete.{derives-unique}
-use Rattle.text.proofs.Few.{derives-few}
-use Rattle.text.proofs.Small.{derives-small}
+use Rattle.grammar.proofs.Complete.{derives-unique}
+use Rattle.grammar.proofs.Few.{derives-few}
+use Rattle.grammar.proofs.Refusals.{no-bad-number, not-too-many}
+use Rattle.grammar.proofs.Small.{derives-small}
 use Rattle.turning.specs.Turning.{marks, turned}
-use Rattle.turning.proofs.Bound.{greatest-at-most}
 use Rattle.turning.proofs.Turned.{literals-turned, value-turned}
 use Rattle.weaving.specs.Gates.{in-order}
-use Rattle.weaving.specs.Labels.{Woven, weave}
-use Rattle.weaving.specs.Following.{follow-by}
-use Rattle.weaving.proofs.Run.{follow-by-value}
-use Rattle.compiler.specs.Compiled.{table-of, compiled}
-use Rattle.compiler.specs.Rows.{of-text}
-use Rattle.compiler.proofs.LabelCount.{label-count-greatest}
-use Rattle.compiler.proofs.Refusals.{Answered, compiled-is}
-use Rattle.run.specs.Run.{whole-run}
+use Rattle.weaving.specs.Labels.{weave}
+use Rattle.weaving.proofs.Following.{follow-by-value}
+use Rattle.compiler.specs.Compiled.{table-of}
+use Rattle.compiler.specs.Rows.{compile-rows, TableMeant}
+use Rattle.widths.proofs.LabelCount as bound
+use Rattle.compiler.proofs.Refusals.{compiled-result-by, none-of-text}
+use Rattle.run.specs.Whole.{whole-run}
 use Rattle.promises.specs.Words.{Accepted, arrangement, Enough}
-use Rattle.promises.proofs.Runs.{run-ends}
+use Rattle.promises.proofs.laws.Runs.{run-ends}
 
 pub literals-arrangement : (e : Typed) → literals (arrangement e) ≡ numbers e
 literals-arrangement e = literals-turned (positive 0 e) ∙ literals-positive 0 e
 
 pub label-count-enough : (e : Typed) (j : ℕ) → Enough (numbers e) j → weave (arrangement e) .label-count ≤ j
-label-count-enough e j h =
-    rw (label-count-greatest (arrangement e)) (greatest-at-most (positive 0 e) j (rw (literals-positive 0 e) h))
+label-count-enough e j h = bound.label-count-enough (positive 0 e) j (rw (literals-positive 0 e) h)
 
 -- an occurrence's truth, looked up along the gates
 map-in-order : (f : ℕ → Bool) (e : Expr) → map (λ x. f (x .occurrence)) (in-order e) ≡ map f (occurrences e)
@@ -50,17 +47,17 @@ map-in-order f (join k l r) =
     map-append (λ x. f (x .occurrence)) (in-order l) (in-order r) ∙ ap₂ _++_ (map-in-order f l) (map-in-order f r) ∙ sym (map-append f (occurrences l) (occurrences r))
 
 module _ {text table : List ℕ} {room : ℕ} {e : Typed} (accepted : Accepted text room e table) where
-  answered : Answered text room table
-  answered = compiled-is text room (result table) .0 (accepted .answers)
+  answered : NoneOf (compile-rows text room) × TableMeant text table
+  answered = compiled-result-by text room table .0 (accepted .answers)
 
-  same-meaning : answered .meaning ≡ e
-  same-meaning = derives-unique (answered .derives) (accepted .means)
+  same-meaning : answered .1 .meaning ≡ e
+  same-meaning = derives-unique (answered .1 .derives) (accepted .means)
 
   pub table-is : table ≡ table-of (weave (arrangement e))
-  table-is = answered .table-is ∙ ap (λ x. table-of (weave (arrangement x))) same-meaning
+  table-is = answered .1 .table-is ∙ ap (λ x. table-of (weave (arrangement x))) same-meaning
 
   pub numbers-few : numbers e ≤ most-literals
-  numbers-few = derives-few (accepted .means) (λ p row. answered .no-row 6 p (of-text (row-6 row)))
+  numbers-few = derives-few (accepted .means) (not-too-many (none-of-text text room (answered .0)))
 
   pub literals-few : literals (arrangement e) ≤ most-literals
   literals-few = rw (literals-arrangement e) numbers-few
@@ -68,7 +65,7 @@ module _ {text table : List ℕ} {room : ℕ} {e : Typed} (accepted : Accepted t
   pub arrangement-small : SmallPrimitives (arrangement e)
   unfolding turned
   arrangement-small =
-      small-arranged (small-positive (derives-small (accepted .means) (λ p row. answered .no-row 3 p (of-text (row-3 row)))) 0) (marks (positive 0 e))
+      small-arranged (small-positive (derives-small (accepted .means) (no-bad-number (none-of-text text room (answered .0)))) 0) (marks (positive 0 e))
 
   pub ten-labels : weave (arrangement e) .label-count ≤ 10
   ten-labels = label-count-enough e 10 (omega (arith, numbers-few))

@@ -1,4 +1,4 @@
--- Statements next to the demands that are false, each with an example that shows it.
+-- Statements next to the demands that are false, each with an example that shows it (scope 10.2).
 --   NoNeighbour == that each of them fails
 -- Assumes nothing.
 use Prim.Native.Nat.{ℕ, _+_, _-_, _*_, _^_, _≤_, _<_}
@@ -8,17 +8,16 @@ use mathlib.Core.Bool.{Bool, true, false}
 use mathlib.Core.List.{List, [], _∷_}
 use lib.ListN.{length}
 use Rattle.terms.specs.Terms.{first-label}
-use Rattle.terms.specs.Answer.{Answer, result}
+use Rattle.terms.specs.Answer.{result}
 use Rattle.formula.specs.Formula.{Expr, literals}
-use Rattle.formula.specs.Typed.{Typed, number, minus, typed-value}
+use Rattle.formula.specs.Typed.{number, minus, typed-value}
 use Rattle.turning.specs.Turning.{turned}
 use Rattle.weaving.specs.Gates.{Gate, gates}
 use Rattle.weaving.specs.Awaited.{waiting, greatest-below, most-awaited}
-use Rattle.weaving.specs.Labels.{Woven, weave}
-use Rattle.compiler.specs.Compiled.{compiled}
-use Rattle.promises.specs.Texts.{bytes}
-use Rattle.promises.specs.Examples.{roomy, run-of}
-use Rattle.promises.specs.Slips.{expr}
+use Rattle.weaving.specs.Labels.{weave}
+use Rattle.compiler.specs.twins.Compiling.{compiled}
+use Rattle.terms.specs.Texts.{bytes}
+use Rattle.promises.specs.examples.Marked.{roomy, run-of, expr}
 
 -- two products united: four literals, three labels
 abbrev pub two-products : Expr

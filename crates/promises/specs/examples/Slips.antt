@@ -1,38 +1,33 @@
--- Slips that the promises have to exclude: each as a definition gone wrong, and what it makes of an example.
+-- Slips that the promises have to exclude: each as a definition gone wrong, and what it makes of an example. Each way of going wrong
+-- is a choice in a definition which, with the right choice, is the right definition: proofs/Controls.antt.
 --   turned-by x e      == the turning that exchanges children where x says so
 --   stored-by step gs  == the store after gates that each do `step` to it
+--   piled-by x gs      == the labels handed out from a pile, where x says how a label is put back
+--   kept-by x e        == e without the literals that x does not keep
+--   renamed f e        == e with every primitive p named f p
 --   order e            == the primitives of the gates of e, in order
 --   NoSlip             == that each slip gives another table or count
 -- Assumes nothing.
 use Prim.Native.Nat.{ℕ, zero, suc, _+_}
-use Prim.Native.String.{String}
 use mathlib.Core.Path.{_≡_}
-use mathlib.Core.Logic.{_≢_}
 use mathlib.Core.Bool.{Bool, true, false, cond, not, _||_}
+use mathlib.Core.Option.{Option, none, some}
 use mathlib.Core.List.{List, [], _∷_, _++_, map}
-use lib.Dec.{eqb}
+use lib.Dec.{ltb, eqb}
 use lib.ListN.{length, take, getD}
-use Rattle.terms.specs.Terms.{Place, Label, first-label}
-use Rattle.terms.specs.Answer.{Answer, result, refused}
-use Rattle.formula.specs.Formula.{Literal, Kind, union, intersection, Expr, literal, join, literals}
-use Rattle.formula.specs.Typed.{occurs}
+use Rattle.terms.specs.Terms.{Primitive, Place, Label, first-label}
+use Rattle.terms.specs.Answer.{result}
+use Rattle.formula.specs.Formula.{Literal, Kind, Expr, literal, join, literals}
+use Rattle.formula.specs.Typed.{Typed, occurs, positive}
 use Rattle.formula.specs.Marks.{placed}
-use Rattle.text.specs.Reading.{reading}
-use Rattle.turning.specs.Tags.{Tag, priced, price, row, smaller}
-use Rattle.turning.specs.Turning.{turned}
+use Rattle.turning.specs.Tags.{priced, price, row, smaller}
+use Rattle.turning.specs.Turning.{exchanges, turned}
 use Rattle.weaving.specs.Gates.{Gate, in-order, gates, true-end, false-end}
-use Rattle.weaving.specs.Labels.{Slot, Store, label-of, labelled, left, GateRecord, Woven, weave}
-use Rattle.compiler.specs.Compiled.{compiled}
-use Rattle.promises.specs.Texts.{bytes}
-use Rattle.promises.specs.Examples.{roomy, run-of}
-
--- the expression that a text means
-abbrev pub meant : Answer Expr → Expr
-meant (result e) = e
-meant (refused r p) = occurs 0 true 0
-
-abbrev pub expr : String → Expr
-expr text = meant (reading (bytes text))
+use Rattle.weaving.specs.Labels.{Store, label-of, labelled, left, weave}
+use Rattle.compiler.specs.Compiled.{table-of}
+use Rattle.compiler.specs.twins.Compiling.{compiled}
+use Rattle.terms.specs.Texts.{bytes}
+use Rattle.promises.specs.examples.Marked.{roomy, run-of, expr}
 
 abbrev pub order : Expr → List ℕ
 order e = map (λ x. x .primitive) (in-order e)
@@ -46,15 +41,19 @@ turned-by exchanging (literal x) = literal x
 turned-by exchanging (join k l r) =
     placed (exchanging k l r (turned-by exchanging l) (turned-by exchanging r)) k (turned-by exchanging l) (turned-by exchanging r)
 
+-- the right choice
+abbrev pub as-priced : Deciding
+as-priced k l r l′ r′ = exchanges k (price l′) (price r′)
+
 -- rows compared only after something was done to them
 abbrev pub comparing : (List ℕ → List ℕ) → Deciding
 comparing seen k l r l′ r′ = smaller (seen (row (priced k (price r′) (price l′)))) (seen (row (priced k (price l′) (price r′))))
 
--- "Comparing the largest cost only"
+-- "Comparing the largest cost only" (scope 10.2)
 abbrev pub largest-only : Deciding
 largest-only = comparing (take 1)
 
--- "Exchanging children when both rows are equal"
+-- "Exchanging children when both rows are equal" (scope 10.2)
 abbrev pub ties-too : Deciding
 ties-too k l r l′ r′ = not (smaller (row (priced k (price l′) (price r′))) (row (priced k (price r′) (price l′))))
 
@@ -79,19 +78,32 @@ unfoldable pub stored-by : (Gate → Store → Store) → List Gate → Store �
 stored-by step [] s = s
 stored-by step (g ∷ gs) s = stored-by step gs (step g s)
 
--- "Giving back a gate's label after its places got theirs"
+-- "Giving back a gate's label after its places got theirs" (scope 10.2)
 abbrev pub given-back-late : Gate → Store → Store
 given-back-late g s = left (g .number) (labelled (g .false-place) (labelled (g .true-place) s))
 
--- "Labelling the false place first"
+-- "Labelling the false place first" (scope 10.2)
 abbrev pub false-first : Gate → Store → Store
 false-first g s = labelled (g .true-place) (labelled (g .false-place) (left (g .number) s))
 
--- The label given back last is handed out first: labels that came back lie on a pile.
+-- Labels handed out from a pile: the topmost of those that came back, or else a fresh one.
 pub record Pile : Type 0 where
   pub holding : List (Place × Label)
   pub returned : List Label
   pub fresh : Label
+
+-- how a label is put back
+abbrev pub Returning : Type 0
+Returning = Label → List Label → List Label
+
+-- the right choice: the lowest is kept on top
+unfoldable pub lowest-on-top : Returning
+lowest-on-top l [] = l ∷ []
+lowest-on-top l (r ∷ rs) = cond (ltb l r) (l ∷ r ∷ rs) (r ∷ lowest-on-top l rs)
+
+-- the label given back last is handed out first
+abbrev pub last-on-top : Returning
+last-on-top l rs = l ∷ rs
 
 unfoldable pub in-pile : Place → List (Place × Label) → Bool
 in-pile p [] = false
@@ -105,12 +117,12 @@ unfoldable pub without : Place → List (Place × Label) → List (Place × Labe
 without p [] = []
 without p (h ∷ hs) = cond (eqb p (h .0)) hs (h ∷ without p hs)
 
-abbrev pub onto-pile : Place → Pile → Pile
-onto-pile zero s = s
-onto-pile (suc k) s =
+abbrev pub onto-pile : Returning → Place → Pile → Pile
+onto-pile returning zero s = s
+onto-pile returning (suc k) s =
     record {
       holding = without (suc k) (s .holding);
-      returned = pile-label (suc k) (s .holding) ∷ s .returned;
+      returned = returning (pile-label (suc k) (s .holding)) (s .returned);
       fresh = s .fresh;
     }
 
@@ -121,21 +133,54 @@ topmost p hs (r ∷ rs) l = record { holding = (p, r) ∷ hs; returned = rs; fre
 abbrev pub from-pile : Place → Pile → Pile
 from-pile p s = cond (in-pile p (s .holding)) s (topmost p (s .holding) (s .returned) (s .fresh))
 
-unfoldable pub piled : List Gate → Pile → Pile
-piled [] s = s
-piled (g ∷ gs) s = piled gs (from-pile (g .false-place) (from-pile (g .true-place) (onto-pile (g .number) s)))
+unfoldable pub piled-by : Returning → List Gate → Pile → Pile
+piled-by returning [] s = s
+piled-by returning (g ∷ gs) s = piled-by returning gs (from-pile (g .false-place) (from-pile (g .true-place) (onto-pile returning (g .number) s)))
 
-abbrev pub last-pile : Expr → Pile
-last-pile e = piled (gates e) (record { holding = []; returned = []; fresh = first-label })
+abbrev pub last-pile : Returning → Expr → Pile
+last-pile returning e = piled-by returning (gates e) (record { holding = []; returned = []; fresh = first-label })
 
--- "Merging two occurrences of a primitive into one gate": only the first literal of a primitive is kept
+-- the label that False carries
+abbrev pub false-of-pile : Returning → Expr → Label
+false-of-pile returning e = pile-label (false-end (literals e)) (last-pile returning e .holding)
+
+-- Literals left out: an operator that has one child left is that child.
+abbrev pub Keeping : Type 0
+Keeping = List Literal → Literal → Bool
+
+-- the right choice
+abbrev pub every : Keeping
+every before x = true
+
 unfoldable pub seen-in : ℕ → List Literal → Bool
 seen-in p [] = false
 seen-in p (x ∷ xs) = eqb p (x .primitive) || seen-in p xs
 
-unfoldable pub merged : List Literal → List Literal → List Literal
-merged before [] = []
-merged before (x ∷ xs) = cond (seen-in (x .primitive) before) (merged before xs) (x ∷ merged (x ∷ before) xs)
+-- "Merging two occurrences of a primitive into one gate": only the first literal of a primitive is kept (scope 10.2)
+abbrev pub first-only : Keeping
+first-only before x = not (seen-in (x .primitive) before)
+
+abbrev pub joined-kept : Kind → Option Expr → Option Expr → Option Expr
+joined-kept k none r = r
+joined-kept k (some l) none = some l
+joined-kept k (some l) (some r) = some (join k l r)
+
+unfoldable pub kept-by : Keeping → List Literal → Expr → Option Expr
+kept-by keep before (literal x) = cond (keep before x) (some (literal x)) none
+kept-by keep before (join k l r) = joined-kept k (kept-by keep before l) (kept-by keep (before ++ in-order l) r)
+
+abbrev pub table-kept : Option Expr → List ℕ
+table-kept none = []
+table-kept (some e) = table-of (weave e)
+
+-- Primitives renamed.
+unfoldable pub renamed : (Primitive → Primitive) → Expr → Expr
+renamed name (literal x) = occurs (name (x .primitive)) (x .sense) (x .occurrence)
+renamed name (join k l r) = join k (renamed name l) (renamed name r)
+
+-- the table of what was typed, with its primitives renamed
+abbrev pub renamed-table : (Primitive → Primitive) → Typed → List ℕ
+renamed-table name e = table-of (weave (turned (renamed name (positive 0 e))))
 
 -- figure 16 of the paper
 abbrev pub figure-16 : Expr
@@ -151,12 +196,14 @@ pub record NoSlip : Type 0 where
   pub late-needs-three : length (stored-by given-back-late (gates (turned (expr "1*2"))) []) ≡ 3
   pub true-carries-0 : weave (turned (expr "5")) .true-label ≡ 0
   pub false-first-carries-1 : label-of (true-end 1) (stored-by false-first (gates (turned (expr "5"))) []) ≡ 1
-  pub two-occurrences-two-gates : length (gates (turned (expr "7-7"))) ≡ 2
-  pub merged-one-gate : length (merged [] (in-order (turned (expr "7-7")))) ≡ 1
+  pub two-occurrences-two-gates : compiled (bytes "7-7") roomy
+      ≡ result (72 ∷ 2 ∷ 0 ∷ 2 ∷ 80 ∷ 7 ∷ 0 ∷ 0 ∷ 0 ∷ 1 ∷ 78 ∷ 7 ∷ 0 ∷ 0 ∷ 0 ∷ 1 ∷ 69 ∷ 0 ∷ 1 ∷ [])
+  pub merged-one-gate : table-kept (kept-by first-only [] (turned (expr "7-7"))) ≡ 72 ∷ 1 ∷ 0 ∷ 2 ∷ 80 ∷ 7 ∷ 0 ∷ 0 ∷ 0 ∷ 1 ∷ 69 ∷ 0 ∷ 1 ∷ []
   pub occurrences-differ : run-of (compiled (bytes "7-7") roomy) (true ∷ false ∷ []) ≡ result true
   pub lowest-free-order : order (turned (expr "1+(2*3+4*5)")) ≡ 2 ∷ 3 ∷ 4 ∷ 5 ∷ 1 ∷ []
   pub lowest-free-false : weave (turned (expr "1+(2*3+4*5)")) .false-label ≡ 1
-  pub last-returned-false : pile-label (false-end 5) (last-pile (turned (expr "1+(2*3+4*5)")) .holding) ≡ 2
+  pub lowest-on-top-false : false-of-pile lowest-on-top (turned (expr "1+(2*3+4*5)")) ≡ 1
+  pub last-returned-false : false-of-pile last-on-top (turned (expr "1+(2*3+4*5)")) ≡ 2
   pub three-costs-order : order (turned (expr "1+(2+3)*(4+5)+6")) ≡ 6 ∷ 2 ∷ 3 ∷ 4 ∷ 5 ∷ 1 ∷ []
   pub two-largest-order : order (turned-by two-largest (expr "1+(2+3)*(4+5)+6")) ≡ 2 ∷ 3 ∷ 4 ∷ 5 ∷ 1 ∷ 6 ∷ []
   pub place-by-place-order : order (turned (expr "1+(2+3)*(4+5)")) ≡ 2 ∷ 3 ∷ 4 ∷ 5 ∷ 1 ∷ []

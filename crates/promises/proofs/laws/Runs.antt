@@ -1,37 +1,35 @@
 -- A run over the table of an expression is never refused, and ends as following its gate records does: each feed reads back the
 -- record that weaving gave its gate. Assumes nothing.
-use Prim.Native.Nat.{ℕ, zero, suc, _+_, _≤_, _<_}
-use mathlib.Core.Path.{_≡_, refl, sym, ap, _∙_, subst}
-use mathlib.Core.Bool.{Bool, true, false, cond, not}
-use mathlib.Core.Option.{Option, none, some}
+use Prim.Native.Nat.{ℕ, suc, _+_, _≤_, _<_}
+use mathlib.Core.Path.{_≡_, refl, sym, ap, _∙_}
+use mathlib.Core.Bool.{Bool, true, false, cond}
+use mathlib.Core.Option.{none}
 use mathlib.Core.List.{List, [], _∷_}
-use native.Mathlib.Nat.{add-zero, add-suc, suc-add}
 use native.Mathlib.Omega.{arith}
-use lib.Dec.{ltb, eqb}
-use lib.ListN.{length, getD, drop, drop-of-length-le}
+use lib.ListN.{length, drop}
 use lib.Seq.{drop-cons}
 use borrow.Author.Tests.{lt-ltb, eq-eqb, ne-eqb}
 use Rattle.terms.specs.Terms.{Label, first-label, most-literals, most-labels}
-use Rattle.terms.specs.Answer.{Answer, result, refused, refuse, on-result}
-use Rattle.terms.specs.First.{where-so}
-use Rattle.formula.specs.Formula.{Literal, Expr, literals, sensed}
+use Rattle.terms.specs.Answer.{result}
+use Rattle.formula.specs.Formula.{Expr, literals, sensed}
 use Rattle.formula.proofs.Small.{SmallPrimitives}
-use Rattle.weaving.specs.Labels.{GateRecord, Woven, weave}
-use Rattle.weaving.specs.Following.{moved, follow-by}
+use Rattle.weaving.specs.Labels.{GateRecord, weave}
+use Rattle.weaving.proofs.Following.{label-after, follow-by}
 use Rattle.weaving.proofs.Ends.{ends-differ}
 use Rattle.weaving.proofs.Range.{length-gate-records}
-use Rattle.table.specs.Layout.{Header, header-of, GateFields, gate-of, EndFields, end-of, kind-of}
+use Rattle.table.specs.Layout.{header-of, GateFields, gate-of, EndFields, end-of, kind-by-sense}
 use Rattle.table.specs.WellFormed.{WellFormed}
-use Rattle.table.specs.Faults.{frame-fault, gate-fits, end-fits, gate-fault, end-fault, table-fault}
+use Rattle.table.specs.twins.Faults.{frame-fault}
 use Rattle.table.proofs.Tested.{no-frame-fault, gate-told, end-told, well-formed-told}
 use Rattle.compiler.specs.Compiled.{table-of}
-use Rattle.compiler.proofs.Bytes.{no-record, record-of, fields-of}
+use Rattle.compiler.proofs.Bytes.{no-record, record-of}
 use Rattle.compiler.proofs.Tables.{gates-said, gate-written, end-written, table-well-formed}
 use Rattle.run.specs.Run as run
-use Rattle.run.specs.Run.{Run, started, fed, answered, ended, fed-all, whole-run}
+use Rattle.run.specs.Whole.{fed-all, whole-run}
+use Rattle.run.specs.twins.Answers.{started, fed, answered, ended}
 
 -- a gate takes the truth or its opposite as its literal's sense says
-taken-sensed : (sense truth : Bool) → run.taken (kind-of sense) truth ≡ sensed sense truth
+taken-sensed : (sense truth : Bool) → run.taken (kind-by-sense sense) truth ≡ sensed sense truth
 taken-sensed true truth = refl
 taken-sensed false truth = refl
 
@@ -46,14 +44,14 @@ module _ (e : Expr) (small : SmallPrimitives e) (few : literals e ≤ most-liter
   framed = no-frame-fault table .1 (record { header = formed .header; long = formed .long })
 
   moved-read : (k : ℕ) (l : Label) (u : Bool) → k < literals e
-      → run.moved (gate-of table k) u l ≡ moved (record-of (weave e) k) (sensed (record-of (weave e) k .literal .sense) u) l
+      → run.moved (gate-of table k) u l ≡ label-after (record-of (weave e) k) (sensed (record-of (weave e) k .literal .sense) u) l
   moved-read k l u h =
       ap (λ (g : GateFields). run.moved g u l) (gate-written e small few k h)
       ∙ rw (taken-sensed (record-of (weave e) k .literal .sense) u)
 
   pub fed-once : (k : ℕ) (l : Label) (u : Bool) → k < literals e
       → fed (record { gate = k; label = l }) table u
-      ≡ result (record { gate = suc k; label = moved (record-of (weave e) k) (sensed (record-of (weave e) k .literal .sense) u) l })
+      ≡ result (record { gate = suc k; label = label-after (record-of (weave e) k) (sensed (record-of (weave e) k .literal .sense) u) l })
   unfolding fed
   fed-once k l u h =
       let within : k < header-of table .gates = omega (arith, gates-said e small few) in
@@ -75,7 +73,7 @@ module _ (e : Expr) (small : SmallPrimitives e) (few : literals e ≤ most-liter
       let within : k < literals e = omega arith in
       let rs = weave e .gate-records in
       rw (fed-once k l u within, drop-cons rs k no-record (rw (length-gate-records e) within))
-      (fed-each us (suc k) (moved (record-of (weave e) k) (sensed (record-of (weave e) k .literal .sense) u) l) (omega arith))
+      (fed-each us (suc k) (label-after (record-of (weave e) k) (sensed (record-of (weave e) k .literal .sense) u) l) (omega arith))
 
   -- the label of one end or the other
   ended-on : (v : Bool) → ended (end-of table (literals e)) (cond v (weave e .true-label) (weave e .false-label)) ≡ result v

@@ -1,0 +1,12 @@
+pub mod Computing
+pub mod Runs
+pub mod Accepted
+pub mod Asked
+pub mod Falling
+pub mod Said
+pub mod Named
+pub mod Meant
+pub mod Answers
+pub mod Plain
+pub mod Readers
+pub mod Driving

@@ -1,0 +1,4 @@
+pub mod Marked
+pub mod Slips
+pub mod Neighbours
+pub mod Counting
