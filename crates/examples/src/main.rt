@@ -83,6 +83,16 @@ fn deepest(text: &mut [u8; 16385], out: &mut [u8; 6151]) {
     show_first(b"10 closings and 70 openings", text, n, out);
 }
 
+// The texts that take the most stack: 1,024 literals, nearly as deep as they are many.
+fn worst(text: &mut [u8; 16385], out: &mut [u8; 6151]) {
+    let n = texts::exchanged(text, 0, 340);
+    show_first(b"1024 exchanged", text, n, out);
+    let n = texts::exchanged(text, 63, 319);
+    show_first(b"1024 exchanged in 63 parentheses", text, n, out);
+    let n = texts::deep_chain(text);
+    show_first(b"1024 in a row in 64 parentheses", text, n, out);
+}
+
 fn main() {
     let mut text = [0u8; 16385];
     let mut out = [0u8; 6151];
@@ -92,4 +102,5 @@ fn main() {
     limits(&mut text, &mut out);
     longest(&mut text, &mut out);
     deepest(&mut text, &mut out);
+    worst(&mut text, &mut out);
 }
