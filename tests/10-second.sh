@@ -1,5 +1,5 @@
 #!/usr/bin/env bash
-# The second program, written from document 01 alone, holds its own tests; so does the comparison, over programs with a
+# The second program, written from the scope alone, holds its own tests; so does the comparison, over programs with a
 # slip of their own; and the stored corpus is the one that the second program writes.
 set -euo pipefail
 cargo test --release --offline --quiet --manifest-path second/Cargo.toml

@@ -4,6 +4,6 @@ fn main() {
     println!("cargo:rerun-if-env-changed=BLIST_LIBRARY");
     if let Ok(folder) = std::env::var("BLIST_LIBRARY") {
         println!("cargo:rustc-link-search=native={folder}");
-        println!("cargo:rerun-if-changed={folder}/libviewer.a");
+        println!("cargo:rerun-if-changed={folder}/libblist.a");
     }
 }

@@ -1,5 +1,5 @@
-//! Real material: the outputs of the two programmable logic arrays printed in source
-//! document 001, as texts and by a plain evaluation that reads their letters.
+//! Real material: the outputs of the two programmable logic arrays printed in
+//! [Dvořák], as texts and by a plain evaluation that reads their letters.
 
 const PRINTED: [&str; 2] = [
     include_str!("../data/pla1.txt"),

@@ -2,12 +2,12 @@
 
 use crate::positive::{positive, Node, Sense};
 use crate::refusal::Refusal;
-use crate::{table, text, turning, weaving};
+use crate::{check, layout, reading, text, turning, weaving};
 use std::fmt::Write;
 
 /// The turned expression of a text that refusals 1 to 6 let pass.
 pub fn turned(text: &[u8]) -> Result<Node, Refusal> {
-    let mut node = positive(&text::read(text)?);
+    let mut node = positive(&reading::read(text)?);
     turning::turn(&mut node);
     Ok(node)
 }
@@ -16,10 +16,10 @@ pub fn turned(text: &[u8]) -> Result<Node, Refusal> {
 pub fn table_of(text: &[u8]) -> Result<Vec<u8>, Refusal> {
     let gates = weaving::gates(&turned(text)?);
     let labels = weaving::labels(&gates);
-    if labels.count > table::MOST_LABELS {
+    if labels.count > layout::MOST_LABELS {
         return Err(Refusal::new(7, 0));
     }
-    Ok(table::write(&gates, &labels))
+    Ok(layout::write(&gates, &labels))
 }
 
 /// The table again, if a lent buffer with room for so many bytes holds it.
@@ -37,7 +37,7 @@ pub fn compile(text: &[u8], room: usize) -> Result<Vec<u8>, Refusal> {
 
 /// The room that holds every table.
 pub fn ample_room() -> usize {
-    table::length(text::MOST_LITERALS)
+    layout::length(text::MOST_LITERALS)
 }
 
 /// What the listing program writes for a text.
@@ -48,10 +48,10 @@ pub fn listing(text: &[u8]) -> String {
 }
 
 fn lines(table: &[u8]) -> Result<String, Refusal> {
-    let header = table::check(table)?;
+    let header = check::whole(table)?;
     let mut out = format!("gates {} labels {}\n", header.gates, header.labels);
     for gate in 0..header.gates {
-        let record = table::record(table, header, gate)?;
+        let record = check::record(table, header, gate)?;
         let sense = match record.sense {
             Sense::Plain => '+',
             Sense::Complemented => '-',
@@ -59,7 +59,7 @@ fn lines(table: &[u8]) -> Result<String, Refusal> {
         let (own, yes, no) = (record.own, record.true_label, record.false_label);
         writeln!(out, "{gate} {} {sense} {own} {yes} {no}", record.primitive).unwrap();
     }
-    let end = table::end(table, header)?;
+    let end = check::end(table, header)?;
     writeln!(out, "true {} false {}", end.true_label, end.false_label).unwrap();
     Ok(out)
 }

@@ -1,14 +1,30 @@
 //! The old way to fewer labels, for comparison: from the typed order, turn one operator at
 //! a time as long as some single turn lowers the label count of the whole expression.
 
-use crate::positive::Node;
+use crate::positive::{positive, Node};
+use crate::refusal::Refusal;
 use crate::weaving::{self, Gate, Labels};
+use crate::{layout, reading};
 
 /// Where the old way stops: after how many turns, with which gates and labels.
 pub struct Stop {
     pub turns: usize,
     pub gates: Vec<Gate>,
     pub labels: Labels,
+}
+
+/// Where the old way stops for a text that refusals 1 to 6 let pass.
+pub fn stop(text: &[u8]) -> Result<Stop, Refusal> {
+    Ok(old_way(positive(&reading::read(text)?)))
+}
+
+/// The table of the expression as the old way leaves it, if refusals 1 to 7 let it pass.
+pub fn table(text: &[u8]) -> Result<Vec<u8>, Refusal> {
+    let stop = stop(text)?;
+    if stop.labels.count > layout::MOST_LABELS {
+        return Err(Refusal::new(7, 0));
+    }
+    Ok(layout::write(&stop.gates, &stop.labels))
 }
 
 /// Follows the old way. If several turns help, the first is taken, counting an operator

@@ -1,4 +1,4 @@
-//! A refusal: its number from document 01's list and the place returned with it.
+//! A refusal: its number in the scope's table (docs/scope.md, 7.1) and the place returned with it.
 
 use std::fmt;
 

@@ -1,4 +1,4 @@
-//! All series-parallel expressions of few literals (the functions of source document 003):
+//! All series-parallel expressions of few literals (the functions of [Young] in docs/scope.md):
 //! every tree of unions and intersections, in every order and grouping, each primitive once.
 
 use crate::positive::Kind;

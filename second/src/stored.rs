@@ -45,7 +45,7 @@ fn two_bytes(number: usize) -> [u8; 2] {
     number.to_le_bytes()
 }
 
-/// Document 01's examples, and texts on both sides of its limits.
+/// The scope's examples, and texts on both sides of its limits.
 pub fn examples() -> Vec<Case> {
     let listed = [
         "5",

@@ -1,8 +1,7 @@
-//! The text: refusals 1 to 6 with their places, each tested over the whole text before the
-//! next, and then the reading of what is left as a typed expression.
+//! The text: its limits, and refusals 1 to 6 with their places, each tested over the whole
+//! text before the next.
 
 use crate::refusal::Refusal;
-use crate::typed::{self, Typed};
 use std::ops::Range;
 
 pub const MOST_BYTES: usize = 16_384;
@@ -23,14 +22,14 @@ const TESTS: [(u8, Test); 6] = [
     (6, too_many_literals),
 ];
 
-/// The typed expression, or the first of refusals 1 to 6 that holds.
-pub fn read(text: &[u8]) -> Result<Typed, Refusal> {
+/// The first of refusals 1 to 6 that holds, if any does.
+pub fn test(text: &[u8]) -> Result<(), Refusal> {
     for (number, test) in TESTS {
         if let Some(at) = test(text) {
             return Err(Refusal::new(number, at));
         }
     }
-    Ok(typed::parse(text))
+    Ok(())
 }
 
 fn too_long(text: &[u8]) -> Option<usize> {
@@ -141,7 +140,7 @@ mod tests {
 
     const BYTES: &[u8] = b"1+!() ";
 
-    /// The grammar read off the page by trying every split; it knows nothing of beginnings.
+    /// The grammar read off the scope by trying every split; it knows nothing of beginnings.
     fn is_sum(text: &[u8]) -> bool {
         is_product(text) || joined(text, b"+", is_sum, is_product)
     }

@@ -1,12 +1,12 @@
-//! Document 01's examples on each side, its slips, and some marks that decide an order.
+//! The scope's examples on each side, its slips, and some marks that decide an order.
 
 mod common;
 
 use common::*;
 use second::positive::positive;
-use second::table::{answer, feed, start};
+use second::run::{answer, feed, start};
 use second::turning::{standing, turn};
-use second::{compile, listing, text, Refusal};
+use second::{compile, listing, reading, Refusal};
 
 #[test]
 fn one_number() {
@@ -45,7 +45,7 @@ fn two_products() {
 
 #[test]
 fn tags_of_a_sum_with_a_product() {
-    let mut node = positive(&text::read(b"1+2*3").unwrap());
+    let mut node = positive(&reading::read(b"1+2*3").unwrap());
     let typed = standing(&node);
     assert_eq!((typed.mark, typed.costs), (false, [1, 2, 3]));
     let exchanged = turn(&mut node);
@@ -153,4 +153,19 @@ fn marks_decide_the_order() {
     assert_eq!(order("1+(2+3)*(4+5)+6"), [6, 2, 3, 4, 5, 1]);
     assert_eq!(order("1+(2+3)*(4+5)"), [2, 3, 4, 5, 1]);
     assert_eq!(order("1+2*(3+4)"), [3, 4, 2, 1]);
+}
+
+/// One literal more than so many labels suffice to can need one label more ([OBF], 3.5, with
+/// its operators exchanged): nine labels, and so four bits, come first with 382 literals.
+#[test]
+fn one_literal_beyond_the_bound() {
+    let mut text = "1*2+3*4".to_string();
+    for labels in 3..=9 {
+        let literals = records(&table(&text)).len();
+        assert_eq!(
+            (literals, label_count(&text)),
+            (3 * (1 << (labels - 2)) - 2, labels)
+        );
+        text = format!("({text})*5+({text})*6");
+    }
 }

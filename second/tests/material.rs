@@ -1,12 +1,13 @@
-//! Real material: the arrays of source document 001 over all their inputs, and every
+//! Real material: the arrays of [Dvořák] over all their inputs, and every
 //! series-parallel expression of few literals with its label count against the bound.
 
 mod common;
 
 use common::table;
 use second::arrays::outputs;
+use second::check::{header, record};
+use second::run::{answer, feed, start};
 use second::series_parallel::trees;
-use second::table::{answer, feed, header, record, start};
 use std::collections::BTreeMap;
 
 /// The truth that a run over the table comes to; bit i of the inputs is primitive i's truth.

@@ -2,15 +2,15 @@
 
 use second::compiling::{ample_room, compile, listing, turned};
 use second::random::Random;
-use second::text::{self, MOST_LITERALS};
+use second::text::MOST_LITERALS;
 use second::weaving::{awaited, gates, labels, Gate, Place};
-use second::{corpus, table, turning};
+use second::{check, reading, run, turning};
 
 fn beyond(place: Place, k: usize) -> bool {
     !matches!(place, Place::Gate(gate) if gate <= k)
 }
 
-/// The awaited places of one gap, gathered as the page says it.
+/// The awaited places of one gap, gathered as the scope says it.
 fn awaited_after(gates: &[Gate], k: usize) -> usize {
     let mut places: Vec<Place> = Vec::new();
     for gate in &gates[..=k] {
@@ -81,16 +81,16 @@ fn awaited_places_gathered_gap_by_gap() {
 #[test]
 fn run_agrees_with_the_typed_expression() {
     for (text, mut random) in expressions(3_000, 3_000) {
-        let typed = text::read(&text).unwrap();
+        let typed = reading::read(&text).unwrap();
         let gates = gates(&turned(&text).unwrap());
         let table = compile(&text, ample_room()).unwrap();
         for _ in 0..4 {
             let truths = random.truths(gates.len());
-            let mut run = table::start(&table).unwrap();
+            let mut run = run::start(&table).unwrap();
             for gate in &gates {
-                run = table::feed(run, &table, truths[gate.literal.occurrence]).unwrap();
+                run = run::feed(run, &table, truths[gate.literal.occurrence]).unwrap();
             }
-            assert_eq!(table::answer(run, &table), Ok(typed.truth(&truths)));
+            assert_eq!(run::answer(run, &table), Ok(typed.truth(&truths)));
         }
     }
 }
@@ -115,7 +115,7 @@ fn gates_are_the_typed_occurrences() {
 fn tables_are_well_formed_and_room_is_exact() {
     for (text, _) in expressions(5_000, 1_000) {
         let table = compile(&text, ample_room()).unwrap();
-        let header = table::check(&table).unwrap();
+        let header = check::whole(&table).unwrap();
         assert_eq!(table.len(), 6 * header.gates + 7);
         assert_eq!(compile(&text, table.len()), Ok(table.clone()));
         let refusal = compile(&text, table.len() - 1).unwrap_err();
@@ -137,11 +137,12 @@ fn expressions_have_the_literals_asked_for() {
 #[test]
 fn every_text_gets_an_answer() {
     let mut seen = [false; 9];
-    for line in corpus::lines(7, 4_000) {
-        let words: Vec<&str> = line.split(' ').collect();
-        match words[2] {
-            "table" => seen[0] = true,
-            _ => seen[words[3].parse::<usize>().unwrap()] = true,
+    let mut random = Random::new(7);
+    for _ in 0..4_000 {
+        let text = random.text();
+        for room in [ample_room(), random.below(100)] {
+            let number = compile(&text, room).map_or_else(|refusal| refusal.number, |_| 0);
+            seen[usize::from(number)] = true;
         }
     }
     assert_eq!(

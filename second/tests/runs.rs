@@ -3,9 +3,11 @@
 mod common;
 
 use common::table;
+use second::check::{header, whole};
 use second::compiling::{ample_room, compile};
+use second::layout::length;
 use second::random::Random;
-use second::table::{answer, check, feed, header, length, start, Run};
+use second::run::{answer, feed, start, Run};
 use second::Refusal;
 
 const END_OF_RUN: Run = Run { gate: 4, label: 0 };
@@ -194,7 +196,7 @@ fn start_refuses_what_feeds_and_answer_refuse_between_them() {
             random.damage(&mut table, b"HPNE\x00\x01\x02\x03\x04\x0f\x10\xff");
         }
         let fault = first_fault(&table);
-        assert_eq!(check(&table).err(), fault, "{table:?}");
+        assert_eq!(whole(&table).err(), fault, "{table:?}");
         places.insert(fault.map(|refusal| refusal.at));
     }
     assert!(places.len() >= 9, "{places:?}");

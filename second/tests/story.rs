@@ -3,15 +3,17 @@
 
 mod common;
 
-use second::old_way::{helpful_turns, label_count, old_way, turn_at};
+use second::check::{record, whole};
+use second::old_way::{self, helpful_turns, label_count, old_way, turn_at};
 use second::positive::{positive, Node};
-use second::text;
+use second::reading;
+use second::run::{answer, feed, start};
 use std::collections::BTreeSet;
 
 const PUMP_COVER: &str = include_str!("../../examples/pump-cover.txt");
 
 fn as_typed(text: &str) -> Node {
-    positive(&text::read(text.as_bytes()).unwrap())
+    positive(&reading::read(text.as_bytes()).unwrap())
 }
 
 #[test]
@@ -23,6 +25,30 @@ fn old_way_needs_nine_labels_and_ours_four() {
     assert_eq!((stop.labels.count, stop.turns), (9, 1));
     assert_eq!(stop.gates.len(), 300);
     assert_eq!(common::label_count(PUMP_COVER), 4);
+}
+
+/// The old way's table is a right one, it only has one label more than three bits hold.
+#[test]
+fn old_table_ends_as_ours() {
+    let old = old_way::table(PUMP_COVER.as_bytes()).unwrap();
+    let ours = second::compile(PUMP_COVER.as_bytes(), old.len()).unwrap();
+    assert_eq!(whole(&old).unwrap().labels, 9);
+    for seed in 0..200 {
+        let mut random = second::random::Random::new(seed);
+        let truths: Vec<bool> = (0..300).map(|_| random.one_in(2)).collect();
+        assert_eq!(ends(&old, &truths), ends(&ours, &truths), "seed {seed}");
+    }
+}
+
+/// What a table ends on, given one truth per primitive.
+fn ends(table: &[u8], truths: &[bool]) -> bool {
+    let header = whole(table).unwrap();
+    let mut run = start(table).unwrap();
+    for gate in 0..header.gates {
+        let primitive = record(table, header, gate).unwrap().primitive;
+        run = feed(run, table, truths[usize::from(primitive)]).unwrap();
+    }
+    answer(run, table).unwrap()
 }
 
 /// The label counts at which the old way can stop, whichever helpful turns it takes.

@@ -1,8 +1,8 @@
 //! The proved library, called as its header (include/blist.h) says.
 
-use crate::program::{Answered, Compiled, Fed, Moved, Program};
+use crate::program::{Answered, Compiled, Counts, EndLabels, Fed, Moved, Program, Recorded};
 
-#[link(name = "viewer", kind = "static")]
+#[link(name = "blist", kind = "static")]
 extern "C" {
     fn blist_compile(
         text: *const u8,
@@ -19,6 +19,9 @@ extern "C" {
         truth: u8,
     ) -> Moved;
     fn blist_answer(gate: usize, label: u8, table: *const u8, table_length: usize) -> Answered;
+    fn blist_header(table: *const u8, table_length: usize) -> Counts;
+    fn blist_gate(table: *const u8, table_length: usize, gate: usize) -> Recorded;
+    fn blist_ends(table: *const u8, table_length: usize) -> EndLabels;
 }
 
 /// The library. Slices of length nought are handed over as null pointers, as allowed.
@@ -57,5 +60,20 @@ impl Program for Library {
     fn answer(&self, fed: Fed, table: &[u8]) -> Answered {
         // Safety: as for `start`.
         unsafe { blist_answer(fed.gate, fed.label, lent(table), table.len()) }
+    }
+
+    fn header(&self, table: &[u8]) -> Counts {
+        // Safety: as for `start`.
+        unsafe { blist_header(lent(table), table.len()) }
+    }
+
+    fn gate(&self, table: &[u8], gate: usize) -> Recorded {
+        // Safety: as for `start`.
+        unsafe { blist_gate(lent(table), table.len(), gate) }
+    }
+
+    fn ends(&self, table: &[u8]) -> EndLabels {
+        // Safety: as for `start`.
+        unsafe { blist_ends(lent(table), table.len()) }
     }
 }

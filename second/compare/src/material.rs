@@ -1,4 +1,4 @@
-//! Comparing on real material: the arrays of source document 001 and all series-parallel
+//! Comparing on real material: the arrays of [Dvořák] and all series-parallel
 //! expressions of up to seven literals, over all their inputs against a plain evaluation.
 
 use crate::program::{Fed, Program};

@@ -1,8 +1,10 @@
 //! What the library's header promises its callers, as a trait, and the second program's
 //! answers in that form: every field is said, those without a meaning are nought.
 
+use second::check;
 use second::compiling::{table_of, within};
-use second::table::{self, Run};
+use second::positive::Sense;
+use second::run::{self, Run};
 use second::Refusal;
 
 /// What compiling answers.
@@ -33,6 +35,40 @@ pub struct Answered {
     pub truth: u8,
 }
 
+/// What the reader of a table's header answers.
+#[repr(C)]
+#[derive(Clone, Copy, Debug, Default, PartialEq, Eq)]
+pub struct Counts {
+    pub refusal: u8,
+    pub at: usize,
+    pub gates: usize,
+    pub labels: u8,
+    pub first_label: u8,
+}
+
+/// What the reader of a gate's record answers.
+#[repr(C)]
+#[derive(Clone, Copy, Debug, Default, PartialEq, Eq)]
+pub struct Recorded {
+    pub refusal: u8,
+    pub at: usize,
+    pub primitive: u16,
+    pub complemented: u8,
+    pub own: u8,
+    pub on_true: u8,
+    pub on_false: u8,
+}
+
+/// What the reader of the end labels answers.
+#[repr(C)]
+#[derive(Clone, Copy, Debug, Default, PartialEq, Eq)]
+pub struct EndLabels {
+    pub refusal: u8,
+    pub at: usize,
+    pub on_true: u8,
+    pub on_false: u8,
+}
+
 /// A run as its holder may have altered it, with the truth byte to feed.
 #[derive(Clone, Copy, Debug, PartialEq, Eq)]
 pub struct Fed {
@@ -50,13 +86,16 @@ impl Fed {
     }
 }
 
-/// A program with the four entry points.
+/// A program with the four entry points and the three readers of a table.
 pub trait Program {
     fn compile(&self, text: &[u8], out: &mut [u8]) -> Compiled;
     fn start(&self, table: &[u8]) -> Moved;
     fn feed(&self, fed: Fed, table: &[u8]) -> Moved;
     /// The truth byte is not looked at.
     fn answer(&self, fed: Fed, table: &[u8]) -> Answered;
+    fn header(&self, table: &[u8]) -> Counts;
+    fn gate(&self, table: &[u8], gate: usize) -> Recorded;
+    fn ends(&self, table: &[u8]) -> EndLabels;
 }
 
 /// The second program.
@@ -89,16 +128,16 @@ impl Program for Second {
     }
 
     fn start(&self, table: &[u8]) -> Moved {
-        moved(table::start(table), 0, 0)
+        moved(run::start(table), 0, 0)
     }
 
     fn feed(&self, fed: Fed, table: &[u8]) -> Moved {
-        let run = table::feed(fed.run(), table, fed.truth != 0);
+        let run = run::feed(fed.run(), table, fed.truth != 0);
         moved(run, fed.gate, fed.label)
     }
 
     fn answer(&self, fed: Fed, table: &[u8]) -> Answered {
-        match table::answer(fed.run(), table) {
+        match run::answer(fed.run(), table) {
             Ok(truth) => Answered {
                 truth: u8::from(truth),
                 ..Answered::default()
@@ -107,6 +146,56 @@ impl Program for Second {
                 refusal: refusal.number,
                 at: refusal.at as usize,
                 truth: 0,
+            },
+        }
+    }
+
+    fn header(&self, table: &[u8]) -> Counts {
+        match check::header(table) {
+            Ok(header) => Counts {
+                gates: header.gates,
+                labels: header.labels,
+                ..Counts::default()
+            },
+            Err(refusal) => Counts {
+                refusal: refusal.number,
+                at: refusal.at as usize,
+                ..Counts::default()
+            },
+        }
+    }
+
+    fn gate(&self, table: &[u8], gate: usize) -> Recorded {
+        match run::gate(table, gate as u64) {
+            Ok(record) => Recorded {
+                refusal: 0,
+                at: 0,
+                primitive: record.primitive,
+                complemented: u8::from(record.sense == Sense::Complemented),
+                own: record.own,
+                on_true: record.true_label,
+                on_false: record.false_label,
+            },
+            Err(refusal) => Recorded {
+                refusal: refusal.number,
+                at: refusal.at as usize,
+                ..Recorded::default()
+            },
+        }
+    }
+
+    fn ends(&self, table: &[u8]) -> EndLabels {
+        match run::ends(table) {
+            Ok((_, end)) => EndLabels {
+                refusal: 0,
+                at: 0,
+                on_true: end.true_label,
+                on_false: end.false_label,
+            },
+            Err(refusal) => EndLabels {
+                refusal: refusal.number,
+                at: refusal.at as usize,
+                ..EndLabels::default()
             },
         }
     }

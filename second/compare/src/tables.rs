@@ -1,12 +1,13 @@
 //! Comparing runs: start, feed and answer over tables of all sorts, well formed or not, and
-//! over runs that their holder may have altered in any way.
+//! over runs that their holder may have altered in any way; and the readers of a table.
 
 use crate::difference::{shortest, shown};
 use crate::program::{Fed, Program, Second};
 use second::compiling::compile;
+use second::layout::length;
 use second::random::Random;
-use second::table::length;
 use second::text::MOST_LITERALS;
+use std::fmt::Debug;
 
 /// What was compared.
 #[derive(Clone, Copy, Debug, Default)]
@@ -254,18 +255,30 @@ fn try_run(other: &impl Program, table: &[u8], fed: Fed, done: &mut Count) -> Re
     }
 }
 
-/// What is wrong with one of the other program's three answers, if anything.
+/// What is wrong with one of the other program's six answers, if anything.
 fn fault(other: &impl Program, table: &[u8], fed: Fed) -> Option<String> {
-    let (given, right) = (other.start(table), Second.start(table));
-    if given != right {
-        return Some(format!("start answered {given:?}, the second {right:?}"));
-    }
-    let (given, right) = (other.feed(fed, table), Second.feed(fed, table));
-    if given != right {
-        return Some(format!("feed answered {given:?}, the second {right:?}"));
-    }
-    let (given, right) = (other.answer(fed, table), Second.answer(fed, table));
-    (given != right).then(|| format!("answer gave {given:?}, the second {right:?}"))
+    differs("start", other.start(table), Second.start(table))
+        .or_else(|| differs("feed", other.feed(fed, table), Second.feed(fed, table)))
+        .or_else(|| {
+            differs(
+                "answer",
+                other.answer(fed, table),
+                Second.answer(fed, table),
+            )
+        })
+        .or_else(|| differs("header", other.header(table), Second.header(table)))
+        .or_else(|| {
+            differs(
+                "gate",
+                other.gate(table, fed.gate),
+                Second.gate(table, fed.gate),
+            )
+        })
+        .or_else(|| differs("ends", other.ends(table), Second.ends(table)))
+}
+
+fn differs<A: PartialEq + Debug>(part: &str, given: A, right: A) -> Option<String> {
+    (given != right).then(|| format!("{part} answered {given:?}, the second {right:?}"))
 }
 
 /// The difference, with as few gates as show it and then as few bytes.

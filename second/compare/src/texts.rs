@@ -18,7 +18,7 @@ pub struct Count {
     pub compiles: usize,
 }
 
-/// Compares the other program with the second on document 01's examples, on all texts of
+/// Compares the other program with the second on the scope's examples, on all texts of
 /// at most four bytes, and on so many random texts; answers the first difference.
 pub fn compare(other: &impl Program, seed: u64, count: usize) -> Result<Count, String> {
     let mut done = Count::default();

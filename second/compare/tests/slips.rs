@@ -1,7 +1,9 @@
 //! The comparison tried on programs with a slip of their own: each slip is found, with an
 //! input that cannot be shortened; and the second program does not differ from itself.
 
-use compare::program::{Answered, Compiled, Fed, Moved, Program, Second};
+use compare::program::{
+    Answered, Compiled, Counts, EndLabels, Fed, Moved, Program, Recorded, Second,
+};
 use compare::{material, tables, texts};
 
 #[derive(Clone, Copy, PartialEq)]
@@ -15,6 +17,9 @@ enum Slip {
     LabelCutToSevenBits,
     GateCutTo32Bits,
     TruthIsOneOnly,
+    EndReadAsGate,
+    HeaderBeforeLength,
+    EndsUnchecked,
 }
 
 impl Program for Slip {
@@ -56,6 +61,49 @@ impl Program for Slip {
     fn answer(&self, fed: Fed, table: &[u8]) -> Answered {
         Second.answer(fed, table)
     }
+
+    fn header(&self, table: &[u8]) -> Counts {
+        match (self, Second.header(table), table) {
+            (Slip::HeaderBeforeLength, refused, &[b'H', 1, 0, labels, ..])
+                if refused.refusal != 0 =>
+            {
+                Counts {
+                    gates: 1,
+                    labels,
+                    ..Counts::default()
+                }
+            }
+            (_, right, _) => right,
+        }
+    }
+
+    fn gate(&self, table: &[u8], gate: usize) -> Recorded {
+        match (self, Second.gate(table, gate)) {
+            (Slip::EndReadAsGate, refused)
+                if refused.refusal == 11 && table.len() == 6 * gate + 7 =>
+            {
+                Recorded {
+                    primitive: 256,
+                    ..Recorded::default()
+                }
+            }
+            (_, right) => right,
+        }
+    }
+
+    fn ends(&self, table: &[u8]) -> EndLabels {
+        match (self, Second.ends(table), table) {
+            (Slip::EndsUnchecked, refused, &[.., on_true, on_false]) if refused.at > 0 => {
+                EndLabels {
+                    refusal: 0,
+                    at: 0,
+                    on_true,
+                    on_false,
+                }
+            }
+            (_, right, _) => right,
+        }
+    }
 }
 
 #[test]
@@ -87,6 +135,9 @@ fn slips_of_running() {
         (Slip::LabelCutToSevenBits, "table of 0 bytes", "feed"),
         (Slip::GateCutTo32Bits, "table of 0 bytes", "feed"),
         (Slip::TruthIsOneOnly, "table of 1", "feed"),
+        (Slip::EndReadAsGate, "table of 13 bytes", "gate"),
+        (Slip::HeaderBeforeLength, "table of 4 bytes", "header"),
+        (Slip::EndsUnchecked, "table of 13 bytes", "ends"),
     ];
     for (slip, shortest, part) in slips {
         let difference = tables::compare(&slip, 3, 20_000).unwrap_err();
