@@ -1,12 +1,17 @@
 /* blist.h: the manual of the Blist library.
  *
  * The library compiles a Boolean expression of solids, written as text, to a
- * Blist table, and runs such a table with one truth per gate. Four functions:
+ * Blist table, runs such a table with one truth per gate, and reads what the
+ * table says, for a shader or a loop of the caller's own.
  *
  *     blist_compile   text -> table
  *     blist_start     table -> run
  *     blist_feed      run, table, truth -> run
  *     blist_answer    run, table -> truth
+ *     blist_header    table -> gates, label count, first label
+ *     blist_gate      table, gate -> what the gate's record says
+ *     blist_ends      table -> True's label, False's label
+ *     blist_version   -> the version of the archive
  *
  * Each function is proved to return what this page says, on all inputs. What
  * is proved is the code of the library. This header and the caller are not
@@ -18,24 +23,36 @@
  *     struct blist_table made = blist_compile(text, length, table, sizeof table);
  *     if (made.refusal) return puts(blist_refusal_text(made.refusal));
  *     struct blist_run run = blist_start(table, made.length);
- *     for (size_t k = 0; k < blist_gates(table); k++)
+ *     for (size_t k = 0; k < blist_header(table, made.length).gates; k++)
  *         run = blist_feed(run.gate, run.label, table, made.length,
- *                          inside(point, blist_primitive(table, k)));
+ *                          inside(point, blist_gate(table, made.length, k).primitive));
  *     struct blist_truth end = blist_answer(run.gate, run.label, table, made.length);
+ *
+ * examples/c/smallest.c is this as a program, and examples/c/pixels.c draws a
+ * solid, a label for each pixel and a pass for each gate.
  *
  * The archive is for x86-64 Linux. It calls nothing but the C library's
  * memory functions (memset and its like).
  *
- * What holds for all four functions
+ * How many bits a label takes
+ *
+ * Compiling needs 2 labels for up to 3 literals, 3 for up to 9, 4 for up to 21,
+ * 5 for up to 45, 6 for up to 93, 7 for up to 189, 8 for up to 381, 9 for up to
+ * 765, and 10 for up to 1,024, or fewer. So three bits a pixel suffice for
+ * every text of up to 381 literals, and four bits always do. If you keep three,
+ * test the table's label count before you draw (blist_header): above 8 the
+ * labels do not fit, and label 8 cut to three bits reads as 0, which is True's.
+ *
+ * What holds for all functions
  *
  * - They return on all inputs, given the stack below. They allocate nothing,
  *   keep no state between calls, read and write no global, open no file and
  *   never end the program. So several threads may call them at the same time,
  *   as long as no thread writes bytes that another call reads.
- * - The stack that blist_compile takes is not proved. Reckoned from whole
- *   programs that were measured, it is about 210 KB for 1,024 literals in one
- *   chain, the worst that was found. Give a thread that compiles 512 KB.
- *   The other three take under 1 KB.
+ * - The stack that blist_compile takes is measured, not proved: a thread that
+ *   compiles 1,024 literals in one chain, the worst that was found, needs about
+ *   140 KB (tests/library/stack.c). Give a thread that compiles 512 KB. The
+ *   others take under 1 KB.
  * - They read only the bytes that are lent, and only blist_compile writes:
  *   to `out` and nowhere else.
  * - The caller owns every buffer, before, during and after the call. No
@@ -48,6 +65,7 @@
 #ifndef BLIST_H
 #define BLIST_H
 
+#include <stdbool.h>
 #include <stddef.h>
 #include <stdint.h>
 
@@ -55,6 +73,7 @@
 #define BLIST_VERSION_MINOR 0
 #define BLIST_VERSION_PATCH 0
 #define BLIST_VERSION "1.0.0"
+#define BLIST_VERSION_NUMBER (10000 * BLIST_VERSION_MAJOR + 100 * BLIST_VERSION_MINOR + BLIST_VERSION_PATCH)
 
 #ifdef __cplusplus
 extern "C" {
@@ -112,10 +131,10 @@ enum blist_refusal {
     BLIST_TOO_MANY_LITERALS = 6, /* over 1,024 literals; at: first digit of the 1,025th number */
     BLIST_TOO_MANY_LABELS = 7,   /* the table would need over 15 labels; at: 0. No text gives this */
     BLIST_TOO_LITTLE_ROOM = 8,   /* `out` is too short; at: the bytes that the table needs */
-    /* blist_start, blist_feed, blist_answer */
+    /* blist_start, blist_feed, blist_answer, blist_header, blist_gate, blist_ends */
     BLIST_NOT_A_TABLE = 9,       /* not a well-formed table; at: start of the first record at fault */
     BLIST_NOT_AT_THE_END = 10,   /* answer asked with gate number other than n; at: the gate number */
-    BLIST_NO_GATE_LEFT = 11,     /* truth fed with gate number n or more; at: the gate number */
+    BLIST_NO_GATE_LEFT = 11,     /* truth fed, or record asked, with gate number n or more; at: the gate number */
     BLIST_NO_SUCH_END = 12       /* answer: the label is neither True's nor False's; at: the label */
 };
 
@@ -152,7 +171,8 @@ static inline const char *blist_refusal_text(unsigned number)
         return "The answer was asked before every gate was fed, or after too many. Feed one truth for each gate first; "
                "the place is the run's gate number.";
     case BLIST_NO_GATE_LEFT:
-        return "A truth was fed where no gate is left. Ask for the answer instead; the place is the run's gate number.";
+        return "There is no such gate: a truth was fed, or a record asked, past the last one. Ask for the answer instead; "
+               "the place is the gate number.";
     case BLIST_NO_SUCH_END:
         return "The run's label is neither True's nor False's. Feed the run as the library gave it back, "
                "over the table that it was started on.";
@@ -184,6 +204,79 @@ struct blist_truth {
     uint8_t truth; /* 1: inside the solid; 0: outside, and on refusal */
 };
 
+/* What blist_header returns. */
+struct blist_counts {
+    uint8_t refusal;
+    size_t at;
+    size_t gates;
+    uint8_t labels;      /* how many labels there are */
+    uint8_t first_label; /* the label that a run starts on */
+};
+
+/* What blist_gate returns. */
+struct blist_record {
+    uint8_t refusal;
+    size_t at;
+    uint16_t primitive;   /* the solid whose truth the gate takes */
+    uint8_t complemented; /* 1: it takes the opposite of that truth */
+    uint8_t own;          /* a run on this label is moved by the gate */
+    uint8_t on_true;      /* to this label if true */
+    uint8_t on_false;     /* to this label if false */
+};
+
+/* What blist_ends returns. */
+struct blist_end_labels {
+    uint8_t refusal;
+    size_t at;
+    uint8_t on_true;  /* a run that ends on this label is true */
+    uint8_t on_false; /* a run that ends on this label is false */
+};
+
+/* The layout that the archive has, asserted for the compiler that reads this. */
+#if defined __cplusplus
+#define BLIST_ASSERT(fact) static_assert(fact, #fact)
+#elif defined __STDC_VERSION__ && __STDC_VERSION__ >= 201112L
+#define BLIST_ASSERT(fact) _Static_assert(fact, #fact)
+#else
+#define BLIST_JOIN(a, b) a##b
+#define BLIST_NAME(line) BLIST_JOIN(blist_assert_, line)
+#define BLIST_ASSERT(fact) extern char BLIST_NAME(__LINE__)[(fact) ? 1 : -1]
+#endif
+BLIST_ASSERT(sizeof(size_t) == 8);
+BLIST_ASSERT(sizeof(bool) == 1);
+BLIST_ASSERT(sizeof(struct blist_table) == 24);
+BLIST_ASSERT(offsetof(struct blist_table, refusal) == 0);
+BLIST_ASSERT(offsetof(struct blist_table, at) == 8);
+BLIST_ASSERT(offsetof(struct blist_table, length) == 16);
+BLIST_ASSERT(sizeof(struct blist_run) == 32);
+BLIST_ASSERT(offsetof(struct blist_run, refusal) == 0);
+BLIST_ASSERT(offsetof(struct blist_run, at) == 8);
+BLIST_ASSERT(offsetof(struct blist_run, gate) == 16);
+BLIST_ASSERT(offsetof(struct blist_run, label) == 24);
+BLIST_ASSERT(sizeof(struct blist_truth) == 24);
+BLIST_ASSERT(offsetof(struct blist_truth, refusal) == 0);
+BLIST_ASSERT(offsetof(struct blist_truth, at) == 8);
+BLIST_ASSERT(offsetof(struct blist_truth, truth) == 16);
+BLIST_ASSERT(sizeof(struct blist_counts) == 32);
+BLIST_ASSERT(offsetof(struct blist_counts, refusal) == 0);
+BLIST_ASSERT(offsetof(struct blist_counts, at) == 8);
+BLIST_ASSERT(offsetof(struct blist_counts, gates) == 16);
+BLIST_ASSERT(offsetof(struct blist_counts, labels) == 24);
+BLIST_ASSERT(offsetof(struct blist_counts, first_label) == 25);
+BLIST_ASSERT(sizeof(struct blist_record) == 24);
+BLIST_ASSERT(offsetof(struct blist_record, refusal) == 0);
+BLIST_ASSERT(offsetof(struct blist_record, at) == 8);
+BLIST_ASSERT(offsetof(struct blist_record, primitive) == 16);
+BLIST_ASSERT(offsetof(struct blist_record, complemented) == 18);
+BLIST_ASSERT(offsetof(struct blist_record, own) == 19);
+BLIST_ASSERT(offsetof(struct blist_record, on_true) == 20);
+BLIST_ASSERT(offsetof(struct blist_record, on_false) == 21);
+BLIST_ASSERT(sizeof(struct blist_end_labels) == 24);
+BLIST_ASSERT(offsetof(struct blist_end_labels, refusal) == 0);
+BLIST_ASSERT(offsetof(struct blist_end_labels, at) == 8);
+BLIST_ASSERT(offsetof(struct blist_end_labels, on_true) == 16);
+BLIST_ASSERT(offsetof(struct blist_end_labels, on_false) == 17);
+
 /* Compiles a text to a table in the lent buffer `out`.
  *
  * Returns  the table's length, or refusal 1 to 8.
@@ -194,7 +287,7 @@ struct blist_truth {
  *
  * With BLIST_ROOM bytes, refusal 8 cannot come. To learn the length first,
  * lend no room: (NULL, 0) gives refusal 8 with the length as its place. */
-struct blist_table blist_compile(const uint8_t *text, size_t text_length, uint8_t *out, size_t out_length);
+struct blist_table blist_compile(const void *text, size_t text_length, uint8_t *out, size_t out_length);
 
 /* Starts a run over a table, which may have come from anywhere: the whole table
  * is checked.
@@ -204,16 +297,18 @@ struct blist_table blist_compile(const uint8_t *text, size_t text_length, uint8_
  * Never    writes. Owns nothing. */
 struct blist_run blist_start(const uint8_t *table, size_t table_length);
 
-/* Feeds a run one truth: that of the primitive of its gate. Nought is false,
- * every other byte true. (For a complemented gate too, hand in the truth of the
- * primitive: the run takes the opposite.)
+/* Feeds a run one truth: that of the primitive of its gate. Hand in any number
+ * or pointer: C makes 0 of nought and 1 of all else. (A caller in another
+ * language hands in a byte, nought for false and any other for true.) For a
+ * complemented gate too, hand in the truth of the primitive: the run takes the
+ * opposite.
  *
  * Returns  the run after this gate, or refusal 9 or 11; on refusal gate and
  *          label are those handed in.
  * Checks   the table's header and length and the one record that it reads, each
  *          time: the table may have changed since the start.
  * Never    writes. Owns nothing. */
-struct blist_run blist_feed(size_t gate, uint8_t label, const uint8_t *table, size_t table_length, uint8_t truth);
+struct blist_run blist_feed(size_t gate, uint8_t label, const uint8_t *table, size_t table_length, bool truth);
 
 /* Asks a run that has passed every gate for its truth.
  *
@@ -222,17 +317,32 @@ struct blist_run blist_feed(size_t gate, uint8_t label, const uint8_t *table, si
  * Never    writes. Owns nothing. */
 struct blist_truth blist_answer(size_t gate, uint8_t label, const uint8_t *table, size_t table_length);
 
-/* Readers of a table that blist_compile has made or blist_start has let pass.
- * They check nothing. blist_primitive wants a gate below blist_gates. */
-static inline size_t blist_gates(const uint8_t *table)
-{
-    return (size_t)(table[1] + 256 * table[2]);
-}
+/* What a table says of itself as a whole.
+ *
+ * Returns  the number of gates, the label count and the first label, or
+ *          refusal 9.
+ * Checks   the table's header and length, and no record.
+ * Never    writes. Owns nothing. */
+struct blist_counts blist_header(const uint8_t *table, size_t table_length);
 
-static inline unsigned blist_primitive(const uint8_t *table, size_t gate)
-{
-    return (unsigned)(table[6 * gate + 5] + 256 * table[6 * gate + 6]);
-}
+/* What the record of a gate says.
+ *
+ * Returns  the primitive, whether it is complemented, and the three labels, or
+ *          refusal 9 or 11.
+ * Checks   the table's header and length and the one record that it reads.
+ * Never    writes. Owns nothing. */
+struct blist_record blist_gate(const uint8_t *table, size_t table_length, size_t gate);
+
+/* The labels on which a run ends.
+ *
+ * Returns  True's and False's label, or refusal 9.
+ * Checks   the table's header and length and its last record.
+ * Never    writes. Owns nothing. */
+struct blist_end_labels blist_ends(const uint8_t *table, size_t table_length);
+
+/* The version of the archive: BLIST_VERSION_NUMBER of the header that belongs
+ * to it. */
+uint32_t blist_version(void);
 
 #ifdef __cplusplus
 }

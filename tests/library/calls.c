@@ -1,5 +1,5 @@
-/* Calls the library as blist.h allows, to its edges: nought lengths with null pointers, guard bytes round the buffer, every byte as
- * a truth, and a sentence for each refusal. Prints nothing where all is right. */
+/* Calls the library as blist.h allows, to its edges: nought lengths with null pointers, guard bytes round the buffer, truths of every
+ * kind, readers of what is no table, and a sentence for each refusal. Prints nothing where all is right. */
 #include <stdio.h>
 #include <string.h>
 
@@ -31,9 +31,25 @@ static int truth_is(struct blist_truth t, unsigned refusal, size_t at, unsigned 
     return t.refusal == refusal && t.at == at && t.truth == truth;
 }
 
+static int counts_are(struct blist_counts c, unsigned refusal, size_t at, size_t gates, unsigned labels, unsigned first)
+{
+    return c.refusal == refusal && c.at == at && c.gates == gates && c.labels == labels && c.first_label == first;
+}
+
+static int record_is(struct blist_record r, unsigned refusal, size_t at, unsigned primitive, unsigned complemented, const char *labels)
+{
+    return r.refusal == refusal && r.at == at && r.primitive == primitive && r.complemented == complemented
+        && r.own == labels[0] - '0' && r.on_true == labels[1] - '0' && r.on_false == labels[2] - '0';
+}
+
+static int ends_are(struct blist_end_labels e, unsigned refusal, size_t at, unsigned on_true, unsigned on_false)
+{
+    return e.refusal == refusal && e.at == at && e.on_true == on_true && e.on_false == on_false;
+}
+
 static struct blist_table compile(const char *text, uint8_t *out, size_t room)
 {
-    return blist_compile((const uint8_t *)text, strlen(text), out, room);
+    return blist_compile(text, strlen(text), out, room);
 }
 
 static const uint8_t five[] = {'H', 1, 0, 2, 'P', 5, 0, 0, 0, 1, 'E', 0, 1};
@@ -49,6 +65,9 @@ static void nulls(void)
     EXPECT(run_is(blist_start(NULL, 0), 9, 0, 0, 0));
     EXPECT(run_is(blist_feed(3, 4, NULL, 0, 1), 9, 0, 3, 4));
     EXPECT(truth_is(blist_answer(3, 4, NULL, 0), 9, 0, 0));
+    EXPECT(counts_are(blist_header(NULL, 0), 9, 0, 0, 0, 0));
+    EXPECT(record_is(blist_gate(NULL, 0, 3), 9, 0, 0, 0, "000"));
+    EXPECT(ends_are(blist_ends(NULL, 0), 9, 0, 0, 0));
 }
 
 /* a lent buffer of each room, with guard bytes on both sides: a table and nothing else, or nothing at all */
@@ -70,9 +89,17 @@ static void guards(void)
     }
 }
 
-/* nought is false, every other byte true */
+/* nought is false, all else true, whatever its type */
 static void truths(void)
 {
+    unsigned flags = 0x100;
+    uint64_t many = (uint64_t)1 << 40;
+    EXPECT(blist_feed(0, 0, five, sizeof five, flags & 0x100).label == 0);
+    EXPECT(blist_feed(0, 0, five, sizeof five, flags & 0x200).label == 1);
+    EXPECT(blist_feed(0, 0, five, sizeof five, many).label == 0);
+    EXPECT(blist_feed(0, 0, five, sizeof five, 0.5).label == 0);
+    const uint8_t *held = five;
+    EXPECT(blist_feed(0, 0, five, sizeof five, held).label == 0);
     for (unsigned byte = 0; byte < 256; byte++) {
         struct blist_run run = blist_feed(0, 0, five, sizeof five, (uint8_t)byte);
         EXPECT(run_is(run, 0, 0, 1, byte ? 0 : 1));
@@ -100,6 +127,40 @@ static void runs(void)
     EXPECT(truth_is(blist_answer(1, 1, bad, sizeof bad), 9, 10, 0));
 }
 
+/* what a table says; each reader looks at its own part alone */
+static void readers(void)
+{
+    uint8_t out[BLIST_ROOM], bad[sizeof five];
+    struct blist_table made = compile("1*2+3*4-5", out, sizeof out);
+    EXPECT(counts_are(blist_header(five, sizeof five), 0, 0, 1, 2, 0));
+    EXPECT(record_is(blist_gate(five, sizeof five, 0), 0, 0, 5, 0, "001"));
+    EXPECT(record_is(blist_gate(five, sizeof five, 1), 11, 1, 0, 0, "000"));
+    EXPECT(record_is(blist_gate(five, sizeof five, most), 11, most, 0, 0, "000"));
+    EXPECT(ends_are(blist_ends(five, sizeof five), 0, 0, 0, 1));
+    EXPECT(counts_are(blist_header(out, made.length), 0, 0, 5, out[3], 0));
+    for (size_t k = 0; k < 5; k++) {
+        const uint8_t *at = out + 4 + 6 * k;
+        struct blist_record r = blist_gate(out, made.length, k);
+        EXPECT(r.refusal == 0 && r.at == 0 && r.primitive == at[1] + 256 * at[2] && r.complemented == (at[0] == 'N'));
+        EXPECT(r.own == at[3] && r.on_true == at[4] && r.on_false == at[5]);
+    }
+    EXPECT(ends_are(blist_ends(out, made.length), 0, 0, out[made.length - 2], out[made.length - 1]));
+    for (size_t length = 0; length < sizeof five; length++) {
+        EXPECT(counts_are(blist_header(five, length), 9, 0, 0, 0, 0));
+        EXPECT(record_is(blist_gate(five, length, 7), 9, 0, 0, 0, "000"));
+        EXPECT(ends_are(blist_ends(five, length), 9, 0, 0, 0));
+    }
+    memcpy(bad, five, sizeof five);
+    bad[10] = 'e';
+    EXPECT(counts_are(blist_header(bad, sizeof bad), 0, 0, 1, 2, 0));
+    EXPECT(record_is(blist_gate(bad, sizeof bad, 0), 0, 0, 5, 0, "001"));
+    EXPECT(ends_are(blist_ends(bad, sizeof bad), 9, 10, 0, 0));
+    memcpy(bad, five, sizeof five);
+    bad[9] = 2;
+    EXPECT(record_is(blist_gate(bad, sizeof bad, 0), 9, 4, 0, 0, "000"));
+    EXPECT(ends_are(blist_ends(bad, sizeof bad), 0, 0, 0, 1));
+}
+
 /* the longest texts */
 static void limits(void)
 {
@@ -116,7 +177,7 @@ static void limits(void)
     for (size_t k = 0; k < BLIST_MOST_LITERALS; k++)
         strcat(text, k ? "*1" : "1");
     EXPECT(table_is(compile(text, out, sizeof out), 0, 0, BLIST_ROOM));
-    EXPECT(blist_gates(out) == BLIST_MOST_LITERALS && blist_primitive(out, 1023) == 1);
+    EXPECT(blist_header(out, BLIST_ROOM).gates == BLIST_MOST_LITERALS && blist_gate(out, BLIST_ROOM, 1023).primitive == 1);
     EXPECT(blist_start(out, BLIST_ROOM).refusal == 0);
     strcat(text, "*1");
     EXPECT(table_is(compile(text, out, sizeof out), 6, 2048, 0));
@@ -125,10 +186,11 @@ static void limits(void)
 /* each refusal has a sentence of its own */
 static void sentences(void)
 {
-    for (unsigned a = 0; a <= 13; a++)
+    const unsigned none = BLIST_NO_SUCH_END + 1;
+    for (unsigned a = 0; a <= none; a++)
         for (unsigned b = 0; b < a; b++)
             EXPECT(strcmp(blist_refusal_text(a), blist_refusal_text(b)) != 0);
-    EXPECT(blist_refusal_text(13) == blist_refusal_text(255));
+    EXPECT(blist_refusal_text(none) == blist_refusal_text(255));
 }
 
 int main(void)
@@ -137,6 +199,8 @@ int main(void)
     guards();
     truths();
     runs();
+    readers();
+    EXPECT(blist_version() == BLIST_VERSION_NUMBER);
     limits();
     sentences();
     return wrong;

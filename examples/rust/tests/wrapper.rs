@@ -1,6 +1,7 @@
 //! The wrapper over the library: results, refusals with their places, and what a refusal leaves in the buffer.
 
-use blist::{compile, gates, primitive, table_bytes, Refusal, Run, ROOM};
+use blist::{compile, ends, gate, gates, header, primitive, table_bytes, version};
+use blist::{Ends, Gate, Header, Refusal, Run, ROOM};
 
 fn refusal(number: u8, at: usize) -> Refusal {
     Refusal { number, at }
@@ -71,8 +72,70 @@ fn a_run_refuses_what_is_no_table_and_what_comes_too_soon_or_too_late() {
 
 #[test]
 fn the_readers_of_a_table_answer_on_any_bytes() {
+    let said = Header {
+        gates: 1,
+        labels: 2,
+        first_label: 0,
+    };
+    assert_eq!(header(&FIVE), Ok(said));
+    let record = Gate {
+        primitive: 5,
+        complemented: false,
+        own: 0,
+        on_true: 0,
+        on_false: 1,
+    };
+    assert_eq!(gate(&FIVE, 0), Ok(record));
+    assert_eq!(gate(&FIVE, 1), Err(refusal(11, 1)));
+    let labels = Ends {
+        on_true: 0,
+        on_false: 1,
+    };
+    assert_eq!(ends(&FIVE), Ok(labels));
+    assert_eq!(header(&FIVE[..12]), Err(refusal(9, 0)));
+    assert_eq!(gate(&FIVE[..12], 3), Err(refusal(9, 0)));
+    assert_eq!(ends(&[]), Err(refusal(9, 0)));
+    let mut wrong = FIVE;
+    wrong[12] = 0;
+    assert_eq!(ends(&wrong), Err(refusal(9, 10)));
+    assert_eq!(gate(&wrong, 0), Ok(record));
+}
+
+#[test]
+fn there_is_no_primitive_behind_the_last_gate() {
     assert_eq!(gates(&FIVE), Some(1));
     assert_eq!(primitive(&FIVE, 0), Some(5));
+    assert_eq!(primitive(&FIVE, 1), None);
     assert_eq!(gates(&[72, 1]), None);
     assert_eq!(primitive(&FIVE, usize::MAX), None);
+}
+
+/// The header's own lines, with the pieces of a text joined.
+fn manual() -> String {
+    let lines = include_str!("../../../include/blist.h").lines();
+    lines
+        .map(str::trim)
+        .collect::<Vec<_>>()
+        .join("")
+        .replace("\"\"", "")
+}
+
+#[test]
+fn the_wrapper_has_the_words_of_the_header() {
+    let manual = manual();
+    for number in 1..=13 {
+        let said = format!("return \"{}\";", refusal(number, 0).text());
+        assert!(manual.contains(&said), "{said}");
+    }
+    assert_ne!(refusal(12, 0).text(), refusal(13, 0).text());
+    assert_eq!(refusal(13, 0).text(), refusal(255, 0).text());
+}
+
+#[test]
+fn the_archive_has_the_version_of_this_package() {
+    let part = |name: &str| name.parse::<u32>().unwrap();
+    let expected = 10000 * part(env!("CARGO_PKG_VERSION_MAJOR"))
+        + 100 * part(env!("CARGO_PKG_VERSION_MINOR"))
+        + part(env!("CARGO_PKG_VERSION_PATCH"));
+    assert_eq!(version(), expected);
 }
