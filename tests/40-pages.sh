@@ -1,5 +1,5 @@
 #!/usr/bin/env bash
-# Runs every example of the pages on refusals, so that none can rot, and holds each page to its number.
+# Runs every example of the pages on refusals, so that none can rot, and holds the pages to the numbers of the header.
 set -euo pipefail
 . tests/common/x86.sh
 need make make
@@ -7,29 +7,23 @@ need python3 python3
 
 work=$PWD/target/pages
 rm -rf "$work"
-mkdir -p "$work/target/bin"
+mkdir -p "$work"
 make --silent
-
-# the listing program, under the name that the pages give it
-if [ -d crates/list ]; then
-    test -x target/bin/list || { echo "pages: target/bin/list is not built"; exit 1; }
-    printf '#!/bin/sh\nexec %s %s\n' "$runner86" "$PWD/target/bin/list" > "$work/target/bin/list"
-else
-    echo "(there is no listing program yet: the second program's listing stands in)"
-    cargo build --release --offline --quiet --manifest-path second/Cargo.toml
-    printf '#!/bin/sh\nexec %s list\n' "$PWD/second/target/release/second" > "$work/target/bin/list"
-fi
-chmod +x "$work/target/bin/list"
+test -x target/bin/list || { echo "pages: target/bin/list is not built"; exit 1; }
+touch target/bin/list # as new as its sources, which the prover has just read
+ln -s "$PWD/list" "$work/list"
 
 # each page's blocks, as NN-K.sh or NN-K.c with NN-K.expected
-python3 - "$work" docs/refusals/[0-9][0-9].md << 'PY'
+python3 - "$work" include/blist.h docs/refusals/[0-9][0-9].md << 'PY'
 import re, sys
-work, pages = sys.argv[1], sys.argv[2:]
+work, header, pages = sys.argv[1], open(sys.argv[2], encoding='utf-8').read(), sys.argv[3:]
 def fail(page, why):
     sys.exit(f'pages: {page}: {why}')
-if len(pages) != 12:
-    fail('docs/refusals', f'{len(pages)} pages for 12 numbers')
-for number, page in enumerate(pages, 1):
+numbers = [int(number) for number in re.findall(r'(?m)^    BLIST_\w+ = (\d+),? ', header)]
+without = [int(number) for number in re.findall(r'(?m)^    BLIST_\w+ = (\d+),? .*No text gives this', header)]
+if [page[-5:-3] for page in pages] != [f'{number:02d}' for number in numbers]:
+    fail('docs/refusals', f'its pages are {pages}, the numbers of the header {numbers}')
+for number, page in zip(numbers, pages):
     text = open(page, encoding='utf-8').read()
     if not text.startswith(f'# Refusal {number}: '):
         fail(page, 'its title does not name its number')
@@ -40,8 +34,8 @@ for number, page in enumerate(pages, 1):
     kinds = [kind for kind, _ in blocks]
     if kinds[1::2] != ['text'] * (len(kinds) // 2) or any(kind not in ('sh', 'c') for kind in kinds[::2]) or len(kinds) % 2:
         fail(page, f'its blocks are {kinds}')
-    if (number == 7) != (not blocks):
-        fail(page, 'number 7 alone has no example')
+    if (number in without) != (not blocks):
+        fail(page, 'a page has an example exactly if some text gives its number')
     for k, ((kind, code), (_, expected)) in enumerate(zip(blocks[::2], blocks[1::2]), 1):
         if not re.match(rf'(refused {number} at \d+\n)+', expected):
             fail(page, f'example {k} does not give refusal {number}')
@@ -56,18 +50,17 @@ ran=0
 for expected in "$work"/*.expected; do
     name=${expected%.expected}
     if [ -f "$name.sh" ]; then
-        (cd "$work" && bash "$name.sh") > "$name.wrote"
+        (cd "$work" && bash "$name.sh") > "$name.wrote" || [ $? -eq 1 ] # a refusal has status 1
     else
-        CC86 -std=c99 -Wall -Wextra -Werror -Iinclude "$name.c" target/staticlib/libviewer.a -o "$name"
+        CC86 -std=c99 -Wall -Wextra -Werror -Iinclude "$name.c" target/staticlib/libblist.a -o "$name"
         RUN86 "$name" > "$name.wrote"
     fi
     diff "$name.wrote" "$expected" || { echo "pages: $(basename "$name") wrote something else"; exit 1; }
     ran=$((ran + 1))
 done
 
-# page 07 cites two theorems: they are there
-for cited in Never:never-too-many-labels Demands:ten-labels-at-most; do
-    grep -q "\`${cited#*:}\` in \[crates/promises/proofs/${cited%:*}.antt\]" docs/refusals/07.md
-    grep -q "^pub ${cited#*:} : " "crates/promises/proofs/${cited%:*}.antt"
+# a theorem that a page cites is there
+grep -oh '`[a-z-]*` in \[crates/[^]]*\]' docs/refusals/*.md | sed 's/`\(.*\)` in \[\(.*\)\]/\1 \2/' | while read -r theorem file; do
+    grep -q "^ *pub $theorem : " "$file" || { echo "pages: $file has no $theorem"; exit 1; }
 done
 echo "pages: $ran examples ok"
