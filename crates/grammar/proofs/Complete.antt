@@ -3,14 +3,15 @@
 use Prim.Native.Nat.{ℕ, zero, suc, _-_}
 use mathlib.Core.Path.{_≡_, refl, _∙_, ap}
 use mathlib.Core.Bool.{false, true≢false}
-use mathlib.Core.Option.{Option, none, some}
 use mathlib.Core.List.{List, [], _∷_}
 use Rattle.formula.specs.Typed.{Typed, number, complement}
+use Rattle.grammar.specs.declared.Operator.{Operator}
+use Rattle.grammar.specs.declared.Operator.the-variants.{Plus, Times, Minus}
 use Rattle.grammar.specs.declared.Sign.{Sign}
-use Rattle.grammar.specs.declared.Sign.the-variants.{Digit, Plus, Times, Minus, Bang, Open, Close, Blank, Other}
+use Rattle.grammar.specs.declared.Sign.the-variants.{Digit, Joins, Bang, Open, Close, Blank, Other}
 use Rattle.grammar.specs.Bytes.{sign-of, shifted, numeral-from, zero-digit, is-digit}
-use Rattle.grammar.specs.Grammar.{Blanks, Token, token, Digits, NoDigit, Number, run, Factor, numbered, parenthesised, Product, a-factor, Sum, a-product, by-plus, Expression, a-sum, Derives, whole}
-use Rattle.grammar.specs.twins.Reader.{Pending, Waiting, nothing, State, wanted, inside, complete, complemented, added, product-with, Next, go, next-state, on-inside, on-complete, means, read-from, read, onward}
+use Rattle.grammar.specs.Grammar.{Blanks, Token, token, Digits, NoDigit, Number, run, Factor, numbered, parenthesised, Product, a-factor, by-times, Sum, a-product, by-plus, by-minus, Expression, a-sum, Derives, whole}
+use Rattle.grammar.specs.twins.Reader.{of-sums, of-products, level, applied, Pending, alone, half, joined, Waiting, nothing, State, wanted, inside, complete, complemented, product-with, awaiting, Next, go, next-state, on-inside, on-complete, means, read-from, read, onward}
 use Rattle.grammar.proofs.Signs.{digit-value, shifted-zero, is-no-digit}
 
 -- whatever the place, the reader goes from one state before s to another before q
@@ -36,14 +37,14 @@ pub wanted-blanks : {s q : List ℕ} → Blanks s q → (w : Waiting) (outer : L
 wanted-blanks Blanks.none w outer = goes-refl
 wanted-blanks (Blanks.blank {s} is more) w outer = goes-trans (goes-step s is refl) (wanted-blanks more w outer)
 
-pub complete-blanks : {s q : List ℕ} → Blanks s q → (sum : Option Typed) (p : Typed) (outer : List Waiting) → Goes (complete sum p) outer s (complete sum p) outer q
+pub complete-blanks : {s q : List ℕ} → Blanks s q → (sum : Pending) (p : Typed) (outer : List Waiting) → Goes (complete sum p) outer s (complete sum p) outer q
 complete-blanks Blanks.none sum p outer = goes-refl
 complete-blanks (Blanks.blank {s} is more) sum p outer = goes-trans (goes-step s is refl) (complete-blanks more sum p outer)
 
 pub wanted-token : {k : Sign} {s q : List ℕ} {st : State} {outer outer′ : List Waiting} (w : Waiting) → Token k s q → next-state (wanted w) k outer ≡ go st outer′ → Goes (wanted w) outer s st outer′ q
 wanted-token {outer} w (token {q} blanks is) moves = goes-trans (wanted-blanks blanks w outer) (goes-step q is moves)
 
-pub complete-token : {k : Sign} {s q : List ℕ} {st : State} {outer outer′ : List Waiting} (sum : Option Typed) (p : Typed) → Token k s q → next-state (complete sum p) k outer ≡ go st outer′ → Goes (complete sum p) outer s st outer′ q
+pub complete-token : {k : Sign} {s q : List ℕ} {st : State} {outer outer′ : List Waiting} (sum : Pending) (p : Typed) → Token k s q → next-state (complete sum p) k outer ≡ go st outer′ → Goes (complete sum p) outer s st outer′ q
 complete-token {outer} sum p (token {q} blanks is) moves = goes-trans (complete-blanks blanks sum p outer) (goes-step q is moves)
 
 pub inside-digits : {s w q : List ℕ} → Digits s w q → (wait : Waiting) (v : ℕ) (outer : List Waiting) → Goes (inside wait v) outer s (inside wait (numeral-from v w)) outer q
@@ -55,9 +56,7 @@ inside-digits (Digits.digit {b} {s} {q} is more) wait v outer =
 -- where no digit follows, a number is read as a product that it completes
 pub inside-another : (w : Waiting) (v : ℕ) (k : Sign) (outer : List Waiting) → is-digit k ≡ false → on-inside w v k outer ≡ on-complete (w .sum) (product-with w (number v)) k outer
 inside-another w v (Digit d) outer other = absurd (true≢false other)
-inside-another w v Plus outer other = refl
-inside-another w v Times outer other = refl
-inside-another w v Minus outer other = refl
+inside-another w v (Joins o) outer other = refl
 inside-another w v Bang outer other = refl
 inside-another w v Open outer other = refl
 inside-another w v Close outer other = refl
@@ -85,10 +84,22 @@ complemented-complement (suc n) e = ap complement (complemented-complement n e)
 
 -- a sum has been read, up to its last product
 pub record Summed (e : Typed) (outer : List Waiting) (s q : List ℕ) : Type 0 where
-  pub sum : Option Typed
+  pub sum : Pending
   pub product : Typed
-  pub meaning : added sum product ≡ e
+  pub meaning : joined sum product ≡ e
   pub goes : Goes (wanted nothing) outer s (complete sum product) outer q
+
+-- a product more behind an operator of sums
+summed-on : {a b : Typed} {outer : List Waiting} {s r m q : List ℕ} (o : Operator) → level o ≡ of-sums → Summed a outer s r → Token (Joins o) r m
+    → Goes (wanted (record { sum = half a o; product = alone; complements = 0 })) outer m (complete (half a o) b) outer q
+    → Summed (applied o a b) outer s q
+summed-on {a} {b} o binds before mark product =
+    record {
+      sum = half a o;
+      product = b;
+      meaning = refl;
+      goes = goes-trans (before .goes) (goes-trans (complete-token (before .sum) (before .product) mark (rw (binds, before .meaning))) product);
+    }
 
 mutual
   unfolding complemented
@@ -102,25 +113,16 @@ mutual
       let read : Summed _ _ _ _ = expression-read inner (w ∷ outer) in
       goes-trans (wanted-token w opens refl) (goes-trans (read .goes) (complete-token (read .sum) (read .product) closes (rw (read .meaning))))
 
-  pub product-read : {s q : List ℕ} {e : Typed} → Product s e q → (sum : Option Typed) (outer : List Waiting) → Goes (wanted (record { sum = sum; product = Pending.alone; complements = 0 })) outer s (complete sum e) outer q
-  product-read (a-factor f) sum outer = factor-read f (record { sum = sum; product = Pending.alone; complements = 0 }) outer
-  product-read (Product.by-times {a} before mark f) sum outer =
+  pub product-read : {s q : List ℕ} {e : Typed} → Product s e q → (sum : Pending) (outer : List Waiting) → Goes (wanted (record { sum = sum; product = alone; complements = 0 })) outer s (complete sum e) outer q
+  product-read (a-factor f) sum outer = factor-read f (record { sum = sum; product = alone; complements = 0 }) outer
+  product-read (by-times {a} before mark f) sum outer =
       goes-trans (product-read before sum outer)
-      (goes-trans (complete-token sum a mark refl) (factor-read f (record { sum = sum; product = Pending.by-times a; complements = 0 }) outer))
-  product-read (Product.by-minus {a} before mark f) sum outer =
-      goes-trans (product-read before sum outer)
-      (goes-trans (complete-token sum a mark refl) (factor-read f (record { sum = sum; product = Pending.by-minus a; complements = 0 }) outer))
+      (goes-trans (complete-token sum a mark refl) (factor-read f (awaiting of-products sum a Times) outer))
 
   pub sum-read : {s q : List ℕ} {e : Typed} → Sum s e q → (outer : List Waiting) → Summed e outer s q
-  sum-read (a-product {e} p) outer = record { sum = none; product = e; meaning = refl; goes = product-read p none outer }
-  sum-read (by-plus {a} {b} before mark p) outer =
-      let read : Summed _ _ _ _ = sum-read before outer in
-      record {
-        sum = some a;
-        product = b;
-        meaning = refl;
-        goes = goes-trans (read .goes) (goes-trans (complete-token (read .sum) (read .product) mark (rw (read .meaning))) (product-read p (some a) outer));
-      }
+  sum-read (a-product {e} p) outer = record { sum = alone; product = e; meaning = refl; goes = product-read p alone outer }
+  sum-read (by-plus before mark p) outer = summed-on Plus refl (sum-read before outer) mark (product-read p _ outer)
+  sum-read (by-minus before mark p) outer = summed-on Minus refl (sum-read before outer) mark (product-read p _ outer)
 
   pub expression-read : {s q : List ℕ} {e : Typed} → Expression s e q → (outer : List Waiting) → Summed e outer s q
   expression-read (a-sum s) outer = sum-read s outer

@@ -1,6 +1,8 @@
 pub mod SignBytes
 pub mod Signs
+pub mod Numbers
 pub mod Complete
+pub mod Append
 pub mod Sound
 pub mod Longest
 pub mod Runs

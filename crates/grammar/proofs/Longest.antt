@@ -5,14 +5,13 @@ use native.Mathlib.Omega.{arith}
 use native.Mathlib.Numerals.{add-one}
 use native.Mathlib.Decide.{decLe}
 use mathlib.Core.Path.{_≡_, refl, _∙_, ap, subst}
-use mathlib.Core.Option.{Option}
 use mathlib.Core.List.{List, [], _∷_, _++_, append-assoc}
 use lib.ListN.{length, take, length-append}
 use lib.Seq.{take-append-add, take-append-seam}
 use Rattle.formula.specs.Typed.{Typed, number}
 use Rattle.grammar.specs.Bytes.{sign-of}
 use Rattle.grammar.specs.Grammar.{NoDigit, Completable}
-use Rattle.grammar.specs.twins.Reader.{Waiting, nothing, State, wanted, inside, complete, added, product-with, Next, stuck, go, next-state, Outcome, means, stops, at-end, read-from, read, onward}
+use Rattle.grammar.specs.twins.Reader.{Pending, joined, Waiting, nothing, State, wanted, inside, complete, product-with, Next, stuck, go, next-state, Outcome, means, stops, at-end, read-from, read, onward}
 use Rattle.grammar.specs.Rows.{NotASum}
 use Rattle.grammar.proofs.Signs.{not-digit}
 use Rattle.grammar.proofs.Complete.{read-step, inside-ends, read-complete}
@@ -41,10 +40,10 @@ unfolding sign-of
 closes-no-digit [] = NoDigit.at-end
 closes-no-digit (w ∷ outer) = NoDigit.another (not-digit refl refl)
 
-complete-closes : (sum : Option Typed) (p : Typed) (outer : List Waiting) (at : ℕ) → Accepted (read-from (complete sum p) outer at (closes outer))
+complete-closes : (sum : Pending) (p : Typed) (outer : List Waiting) (at : ℕ) → Accepted (read-from (complete sum p) outer at (closes outer))
 unfolding read-from sign-of
-complete-closes sum p [] at = record { meaning = added sum p; accepts = refl }
-complete-closes sum p (w ∷ outer) at = complete-closes (w .sum) (product-with w (added sum p)) outer (suc at)
+complete-closes sum p [] at = record { meaning = joined sum p; accepts = refl }
+complete-closes sum p (w ∷ outer) at = complete-closes (w .sum) (product-with w (joined sum p)) outer (suc at)
 
 inside-closes : (w : Waiting) (v : ℕ) (outer : List Waiting) (at : ℕ) → Accepted (read-from (inside w v) outer at (closes outer))
 inside-closes w v outer at =

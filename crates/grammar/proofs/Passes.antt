@@ -16,11 +16,12 @@ use Rattle.terms.proofs.First.{Tests, first-below-first, first-first-below}
 use Rattle.terms.proofs.Rows.{Decides, where-so-decides}
 use Rattle.formula.specs.Typed.{Typed}
 use Rattle.grammar.specs.declared.Sign.{Sign}
-use Rattle.grammar.specs.declared.Sign.the-variants.{Digit, Plus, Times, Minus, Bang, Open, Close, Blank, Other}
+use Rattle.grammar.specs.declared.Sign.the-variants.{Open, Close}
 use Rattle.grammar.specs.Bytes.{sign-of, is-other, numeral}
 use Rattle.grammar.specs.Grammar.{Derives}
 use Rattle.grammar.specs.twins.Places.{sign-at, run-starts, run-at, one-if, is-open, is-close, opened, shut, runs-before, over-long, foreign-at, foreign-byte, too-large, bad-run-at, bad-run, too-deep-at, too-deep, surplus-at, surplus}
 use Rattle.grammar.specs.Rows.{TooLong, Foreign, NotAllowed, BadRun, BadNumber, Signs, Passes, TooDeep, NumberAt, TooMany}
+use Rattle.grammar.proofs.Signs.{is-other-true, is-open-true, is-close-true}
 use Rattle.grammar.proofs.Runs.{run-at-is, run-within, run-starts-at, run-at-starts, runs-before-lt, number-counted, counted-number, runs-numbers}
 
 first-decides : {P : ℕ → Type 0} {test : ℕ → Bool} {n : ℕ} → Tests P test n → Decides (First P) (first-below test n)
@@ -34,17 +35,6 @@ over-long-decides text =
     λ q row. (lt-ltb longest-text (length text) (row .long), row .place)
 
 -- 2
-is-other-true : (k : Sign) → is-other k ≡ true → k ≡ Other
-is-other-true (Digit d) is = cc
-is-other-true Plus is = cc
-is-other-true Times is = cc
-is-other-true Minus is = cc
-is-other-true Bang is = cc
-is-other-true Open is = cc
-is-other-true Close is = cc
-is-other-true Blank is = cc
-is-other-true Other is = refl
-
 foreign-tests : (text : List ℕ) → Tests (Foreign text) (foreign-at text) (length text)
 foreign-tests text =
     record {
@@ -84,28 +74,6 @@ pub bad-run-decides : (text : List ℕ) → Decides (BadNumber text) (bad-run te
 bad-run-decides text = first-decides (bad-run-tests text)
 
 -- 4
-is-open-true : (k : Sign) → is-open k ≡ true → k ≡ Open
-is-open-true (Digit d) is = cc
-is-open-true Plus is = cc
-is-open-true Times is = cc
-is-open-true Minus is = cc
-is-open-true Bang is = cc
-is-open-true Open is = refl
-is-open-true Close is = cc
-is-open-true Blank is = cc
-is-open-true Other is = cc
-
-is-close-true : (k : Sign) → is-close k ≡ true → k ≡ Close
-is-close-true (Digit d) is = cc
-is-close-true Plus is = cc
-is-close-true Times is = cc
-is-close-true Minus is = cc
-is-close-true Bang is = cc
-is-close-true Open is = cc
-is-close-true Close is = refl
-is-close-true Blank is = cc
-is-close-true Other is = cc
-
 -- a count by a test that only the sign k passes
 module _ (k : Sign) (test : Sign → Bool) (only : (j : Sign) → test j ≡ true → j ≡ k) (passes : test k ≡ true)
     (count : List ℕ → ℕ) (count-none : count [] ≡ 0) (count-one : (b : ℕ) (s : List ℕ) → count (b ∷ s) ≡ one-if (test (sign-of b)) + count s) where

@@ -14,7 +14,7 @@ use Rattle.terms.proofs.First.{Tests}
 use Rattle.formula.specs.Typed.{Typed, numbers}
 use Rattle.grammar.specs.declared.Sign.{Sign}
 use Rattle.grammar.specs.Bytes.{sign-of, is-digit}
-use Rattle.grammar.specs.Grammar.{Blanks, Token, token, IsDigit, Digits, NoDigit, Number, run, Factor, numbered, parenthesised, Product, a-factor, Sum, a-product, by-plus, Expression, a-sum, Derives, whole}
+use Rattle.grammar.specs.Grammar.{Blanks, Token, token, IsDigit, Digits, NoDigit, Number, run, Factor, numbered, parenthesised, Product, a-factor, by-times, Sum, a-product, by-plus, by-minus, Expression, a-sum, Derives, whole}
 use Rattle.grammar.specs.twins.Places.{sign-at, no-digit-before, run-starts, leading-digits, run-at, one-if, runs-before}
 use Rattle.grammar.specs.Rows.{RunAt, Starts, NumberAt, first, next}
 use Rattle.grammar.proofs.Signs.{is-digit-test, is-no-digit, digit-test, no-digit-test}
@@ -231,12 +231,12 @@ mutual
 
   runs-product : {s q : List ℕ} {e : Typed} → Product s e q → runs-from true s ≡ numbers e + runs-from true q
   runs-product (a-factor f) = runs-factor f
-  runs-product (Product.by-times before mark f) = omega (arith, runs-product before, runs-token refl mark, runs-factor f)
-  runs-product (Product.by-minus before mark f) = omega (arith, runs-product before, runs-token refl mark, runs-factor f)
+  runs-product (by-times before mark f) = omega (arith, runs-product before, runs-token refl mark, runs-factor f)
 
   runs-sum : {s q : List ℕ} {e : Typed} → Sum s e q → runs-from true s ≡ numbers e + runs-from true q
   runs-sum (a-product p) = runs-product p
   runs-sum (by-plus before mark p) = omega (arith, runs-sum before, runs-token refl mark, runs-product p)
+  runs-sum (by-minus before mark p) = omega (arith, runs-sum before, runs-token refl mark, runs-product p)
 
   runs-expression : {s q : List ℕ} {e : Typed} → Expression s e q → runs-from true s ≡ numbers e + runs-from true q
   runs-expression (a-sum s) = runs-sum s

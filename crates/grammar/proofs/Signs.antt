@@ -5,13 +5,15 @@ use mathlib.Core.Path.{_≡_, refl, sym, _∙_, ap}
 use mathlib.Core.Bool.{Bool, true, false, cond, _&&_, true≢false}
 use lib.Dec.{leb, eqb}
 use native.Mathlib.Omega.{arith}
+use Rattle.grammar.specs.declared.Operator.the-variants.{Plus, Times, Minus}
 use Rattle.grammar.specs.declared.Sign.{Sign}
-use Rattle.grammar.specs.declared.Sign.the-variants.{Digit, Plus, Times, Minus, Bang, Open, Close, Blank, Other}
-use Rattle.grammar.specs.Bytes.{sign-of, is-digit, shifted, zero-digit, nine-digit}
+use Rattle.grammar.specs.declared.Sign.the-variants.{Digit, Joins, Bang, Open, Close, Blank, Other}
+use Rattle.grammar.specs.Bytes.{sign-of, is-other, is-digit, shifted, zero-digit, nine-digit}
 use Rattle.grammar.specs.Grammar.{IsDigit}
+use Rattle.grammar.specs.twins.Places.{is-open, is-close}
 
 -- a digit's value stands with it
-only-digit : (v d : ℕ) (a b c e f g h i j : Bool) → cond a (Digit v) (cond b Plus (cond c Times (cond e Minus (cond f Bang (cond g Open (cond h Close (cond i Blank (cond j Blank Other)))))))) ≡ Digit d → d ≡ v
+only-digit : (v d : ℕ) (a b c e f g h i j : Bool) → cond a (Digit v) (cond b (Joins Plus) (cond c (Joins Times) (cond e (Joins Minus) (cond f Bang (cond g Open (cond h Close (cond i Blank (cond j Blank Other)))))))) ≡ Digit d → d ≡ v
 only-digit v d true b c e f g h i j is = cc
 only-digit v d false true c e f g h i j is = cc
 only-digit v d false false true e f g h i j is = cc
@@ -31,15 +33,41 @@ digit-value b {d} is =
 pub shifted-zero : (d : ℕ) → shifted 0 d ≡ d
 shifted-zero d = omega arith
 
+-- what passes a test for one sign is that sign
+pub is-other-true : (k : Sign) → is-other k ≡ true → k ≡ Other
+is-other-true (Digit d) is = cc
+is-other-true (Joins o) is = cc
+is-other-true Bang is = cc
+is-other-true Open is = cc
+is-other-true Close is = cc
+is-other-true Blank is = cc
+is-other-true Other is = refl
+
+pub is-open-true : (k : Sign) → is-open k ≡ true → k ≡ Open
+is-open-true (Digit d) is = cc
+is-open-true (Joins o) is = cc
+is-open-true Bang is = cc
+is-open-true Open is = refl
+is-open-true Close is = cc
+is-open-true Blank is = cc
+is-open-true Other is = cc
+
+pub is-close-true : (k : Sign) → is-close k ≡ true → k ≡ Close
+is-close-true (Digit d) is = cc
+is-close-true (Joins o) is = cc
+is-close-true Bang is = cc
+is-close-true Open is = cc
+is-close-true Close is = refl
+is-close-true Blank is = cc
+is-close-true Other is = cc
+
 pub data DigitOrNot : Sign → Type 0 where
   a-digit : (d : ℕ) → DigitOrNot (Digit d)
   no-digit : {k : Sign} → is-digit k ≡ false → DigitOrNot k
 
 pub digit-or-not : (k : Sign) → DigitOrNot k
 digit-or-not (Digit d) = a-digit d
-digit-or-not Plus = no-digit refl
-digit-or-not Times = no-digit refl
-digit-or-not Minus = no-digit refl
+digit-or-not (Joins o) = no-digit refl
 digit-or-not Bang = no-digit refl
 digit-or-not Open = no-digit refl
 digit-or-not Close = no-digit refl

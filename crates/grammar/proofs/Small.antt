@@ -14,7 +14,7 @@ use Rattle.formula.specs.Typed.{Typed}
 use Rattle.formula.proofs.Small.{SmallNumbers, one, not-of, plus-of, times-of, minus-of}
 use Rattle.grammar.specs.declared.Sign.{Sign}
 use Rattle.grammar.specs.Bytes.{sign-of, is-digit, numeral}
-use Rattle.grammar.specs.Grammar.{Blanks, none, blank, Token, token, IsDigit, Digits, digit, Number, run, Factor, complemented, numbered, parenthesised, Product, a-factor, by-times, by-minus, Sum, a-product, by-plus, Expression, a-sum, Derives, whole}
+use Rattle.grammar.specs.Grammar.{Blanks, none, blank, Token, token, IsDigit, Digits, digit, Number, run, Factor, complemented, numbered, parenthesised, Product, a-factor, by-times, Sum, a-product, by-plus, by-minus, Expression, a-sum, Derives, whole}
 use Rattle.grammar.specs.Rows.{BadRun, BadNumber}
 use Rattle.grammar.proofs.Signs.{not-digit}
 use Rattle.grammar.proofs.Passes.{bad-run-tests}
@@ -82,11 +82,11 @@ mutual
   part-product : {text s q : List ℕ} {e : Typed} → Product s e q → Part text s → Part text q
   part-product (a-factor f) p = part-factor f p
   part-product (by-times a t f) p = part-factor f (part-token t (part-product a p))
-  part-product (by-minus a t f) p = part-factor f (part-token t (part-product a p))
 
   part-sum : {text s q : List ℕ} {e : Typed} → Sum s e q → Part text s → Part text q
   part-sum (a-product f) p = part-product f p
   part-sum (by-plus a t f) p = part-product f (part-token t (part-sum a p))
+  part-sum (by-minus a t f) p = part-product f (part-token t (part-sum a p))
 
   part-expression : {text s q : List ℕ} {e : Typed} → Expression s e q → Part text s → Part text q
   part-expression (a-sum s) p = part-sum s p
@@ -116,11 +116,11 @@ mutual
   small-product : {text s q : List ℕ} {e : Typed} → NoBadRun text → Product s e q → Fresh text s → SmallNumbers e
   small-product fine (a-factor f) p = small-factor fine f p
   small-product fine (by-times a t f) p = times-of (small-product fine a p) (small-factor fine f (fresh-token t refl (part-product a (a-part p))))
-  small-product fine (by-minus a t f) p = minus-of (small-product fine a p) (small-factor fine f (fresh-token t refl (part-product a (a-part p))))
 
   small-sum : {text s q : List ℕ} {e : Typed} → NoBadRun text → Sum s e q → Fresh text s → SmallNumbers e
   small-sum fine (a-product f) p = small-product fine f p
   small-sum fine (by-plus a t f) p = plus-of (small-sum fine a p) (small-product fine f (fresh-token t refl (part-sum a (a-part p))))
+  small-sum fine (by-minus a t f) p = minus-of (small-sum fine a p) (small-product fine f (fresh-token t refl (part-sum a (a-part p))))
 
   small-expression : {text s q : List ℕ} {e : Typed} → NoBadRun text → Expression s e q → Fresh text s → SmallNumbers e
   small-expression fine (a-sum s) p = small-sum fine s p

@@ -2,26 +2,26 @@
 -- Assumes nothing.
 use Prim.Native.Nat.{ℕ, suc, _-_}
 use mathlib.Core.Path.{_≡_, refl, sym, _∙_, subst}
-use mathlib.Core.Option.{Option, none, some}
 use mathlib.Core.List.{List, [], _∷_, _++_}
 use Rattle.formula.specs.Typed.{Typed, number}
+use Rattle.grammar.specs.declared.Operator.the-variants.{Plus, Times, Minus}
 use Rattle.grammar.specs.declared.Sign.{Sign}
-use Rattle.grammar.specs.declared.Sign.the-variants.{Digit, Plus, Times, Minus, Bang, Open, Close, Blank, Other}
+use Rattle.grammar.specs.declared.Sign.the-variants.{Digit, Joins, Bang, Open, Close, Blank, Other}
 use Rattle.grammar.specs.Bytes.{sign-of, shifted, numeral-from, numeral, zero-digit}
-use Rattle.grammar.specs.Grammar.{Blanks, Token, token, IsDigit, Digits, NoDigit, run, Factor, numbered, parenthesised, Product, a-factor, Sum, a-product, by-plus, Expression, Derives, whole}
-use Rattle.grammar.specs.twins.Reader.{Pending, Waiting, nothing, State, wanted, inside, complete, complemented, multiplied, added, product-with, Next, stuck, go, next-state, Outcome, means, stops, at-end, read-from, read, onward}
+use Rattle.grammar.specs.Grammar.{Blanks, Token, token, IsDigit, Digits, NoDigit, run, Factor, numbered, parenthesised, Product, a-factor, Sum, a-product, Expression, Derives, whole}
+use Rattle.grammar.specs.twins.Reader.{Pending, alone, half, joined, Waiting, nothing, State, wanted, inside, complete, complemented, product-with, Next, stuck, go, next-state, Outcome, means, stops, at-end, read-from, read, onward}
 use Rattle.grammar.proofs.Signs.{digit-value, shifted-zero, DigitOrNot, a-digit, no-digit, digit-or-not, not-digit}
 use Rattle.grammar.proofs.Complete.{complemented-complement, inside-another}
 
--- what waits, as what has been derived of the text: a sum and its `+`, a product and its `*` or `-`, and so many `!`
-pub data SumBefore : Option Typed → List ℕ → List ℕ → Type 0 where
-  no-sum : {s : List ℕ} → SumBefore none s s
-  a-sum : {s r q : List ℕ} {a : Typed} → Sum s a r → Token Plus r q → SumBefore (some a) s q
+-- what waits, as what has been derived of the text: a sum and its `+` or `-`, a product and its `*`, and so many `!`
+pub data SumBefore : Pending → List ℕ → List ℕ → Type 0 where
+  no-sum : {s : List ℕ} → SumBefore alone s s
+  by-plus : {s r q : List ℕ} {a : Typed} → Sum s a r → Token (Joins Plus) r q → SumBefore (half a Plus) s q
+  by-minus : {s r q : List ℕ} {a : Typed} → Sum s a r → Token (Joins Minus) r q → SumBefore (half a Minus) s q
 
 pub data ProductBefore : Pending → List ℕ → List ℕ → Type 0 where
-  no-product : {s : List ℕ} → ProductBefore Pending.alone s s
-  by-times : {s r q : List ℕ} {a : Typed} → Product s a r → Token Times r q → ProductBefore (Pending.by-times a) s q
-  by-minus : {s r q : List ℕ} {a : Typed} → Product s a r → Token Minus r q → ProductBefore (Pending.by-minus a) s q
+  no-product : {s : List ℕ} → ProductBefore alone s s
+  by-times : {s r q : List ℕ} {a : Typed} → Product s a r → Token (Joins Times) r q → ProductBefore (half a Times) s q
 
 pub data BangsBefore : ℕ → List ℕ → List ℕ → Type 0 where
   no-bang : {s : List ℕ} → BangsBefore 0 s s
@@ -39,7 +39,7 @@ pub data Outside (text : List ℕ) : List Waiting → List ℕ → Type 0 where
 pub data Read (text : List ℕ) : State → List Waiting → List ℕ → Type 0 where
   at-wanted : {w : Waiting} {outer : List Waiting} {s q r : List ℕ} → Outside text outer s → Before w s q → Blanks q r → Read text (wanted w) outer r
   at-inside : {w : Waiting} {v b : ℕ} {outer : List Waiting} {s q m digits r : List ℕ} → Outside text outer s → Before w s q → Blanks q (b ∷ m) → IsDigit b → Digits m digits r → v ≡ numeral (b ∷ digits) → Read text (inside w v) outer r
-  at-complete : {sum : Option Typed} {p : Typed} {outer : List Waiting} {s m q r : List ℕ} → Outside text outer s → SumBefore sum s m → Product m p q → Blanks q r → Read text (complete sum p) outer r
+  at-complete : {sum : Pending} {p : Typed} {outer : List Waiting} {s m q r : List ℕ} → Outside text outer s → SumBefore sum s m → Product m p q → Blanks q r → Read text (complete sum p) outer r
 
 pub blanks-more : {s q : List ℕ} {b : ℕ} → Blanks s (b ∷ q) → sign-of b ≡ Blank → Blanks s q
 blanks-more Blanks.none is = Blanks.blank is Blanks.none
@@ -60,14 +60,14 @@ unfolding complemented
 bangs-factor no-bang f = f
 bangs-factor {e} (one-more {n} before bang) f = rw (← complemented-complement n e) (bangs-factor before (Factor.complemented bang f))
 
-products-factor : {j : Pending} {s m q : List ℕ} {e : Typed} → ProductBefore j s m → Factor m e q → Product s (multiplied j e) q
+products-factor : {j : Pending} {s m q : List ℕ} {e : Typed} → ProductBefore j s m → Factor m e q → Product s (joined j e) q
 products-factor no-product f = a-factor f
 products-factor (by-times before mark) f = Product.by-times before mark f
-products-factor (by-minus before mark) f = Product.by-minus before mark f
 
-sums-product : {j : Option Typed} {s m q : List ℕ} {e : Typed} → SumBefore j s m → Product m e q → Sum s (added j e) q
+sums-product : {j : Pending} {s m q : List ℕ} {e : Typed} → SumBefore j s m → Product m e q → Sum s (joined j e) q
 sums-product no-sum p = a-product p
-sums-product (a-sum before mark) p = by-plus before mark p
+sums-product (by-plus before mark) p = Sum.by-plus before mark p
+sums-product (by-minus before mark) p = Sum.by-minus before mark p
 
 -- an operand has been read: a product is complete
 operand-read : {text s m q r : List ℕ} {w : Waiting} {outer : List Waiting} {e : Typed} → Outside text outer s → Before w s m → Factor m e q → Blanks q r → Read text (complete (w .sum) (product-with w e)) outer r
@@ -85,20 +85,18 @@ ReadOn text (go st outer) s = Read text st outer s
 wanted-read : {text s : List ℕ} {w : Waiting} {b : ℕ} {outer : List Waiting} (k : Sign) → sign-of b ≡ k → Read text (wanted w) outer (b ∷ s) → ReadOn text (next-state (wanted w) k outer) s
 unfolding numeral-from
 wanted-read {b} (Digit d) is (at-wanted out before blanks) = at-inside out before blanks (record { digit = d; stands = is }) Digits.none (digit-value b is ∙ sym (shifted-zero (b - zero-digit)))
-wanted-read Plus is before = tt
-wanted-read Times is before = tt
-wanted-read Minus is before = tt
+wanted-read (Joins o) is before = tt
 wanted-read Bang is (at-wanted out (waits sums products bangs) blanks) = at-wanted out (waits sums products (one-more bangs (token blanks is))) Blanks.none
 wanted-read Open is (at-wanted out before blanks) = at-wanted (under out before (token blanks is)) (waits no-sum no-product no-bang) Blanks.none
 wanted-read Close is before = tt
 wanted-read Blank is (at-wanted out before blanks) = at-wanted out before (blanks-more blanks is)
 wanted-read Other is before = tt
 
-complete-read : {text s : List ℕ} {sum : Option Typed} {p : Typed} {b : ℕ} {outer : List Waiting} (k : Sign) → sign-of b ≡ k → Read text (complete sum p) outer (b ∷ s) → ReadOn text (next-state (complete sum p) k outer) s
+complete-read : {text s : List ℕ} {sum : Pending} {p : Typed} {b : ℕ} {outer : List Waiting} (k : Sign) → sign-of b ≡ k → Read text (complete sum p) outer (b ∷ s) → ReadOn text (next-state (complete sum p) k outer) s
 complete-read (Digit d) is before = tt
-complete-read Plus is (at-complete out before product blanks) = at-wanted out (waits (a-sum (sums-product before product) (token blanks is)) no-product no-bang) Blanks.none
-complete-read Times is (at-complete out before product blanks) = at-wanted out (waits before (by-times product (token blanks is)) no-bang) Blanks.none
-complete-read Minus is (at-complete out before product blanks) = at-wanted out (waits before (by-minus product (token blanks is)) no-bang) Blanks.none
+complete-read (Joins Plus) is (at-complete out before product blanks) = at-wanted out (waits (by-plus (sums-product before product) (token blanks is)) no-product no-bang) Blanks.none
+complete-read (Joins Times) is (at-complete out before product blanks) = at-wanted out (waits before (by-times product (token blanks is)) no-bang) Blanks.none
+complete-read (Joins Minus) is (at-complete out before product blanks) = at-wanted out (waits (by-minus (sums-product before product) (token blanks is)) no-product no-bang) Blanks.none
 complete-read Bang is before = tt
 complete-read Open is before = tt
 complete-read {outer = []} Close is before = tt
@@ -123,7 +121,7 @@ abbrev pub Meant : List ℕ → Outcome → Type 0
 Meant text (means e) = Derives text e
 Meant text (stops at) = Unit {0}
 
-complete-meant : {text : List ℕ} {sum : Option Typed} {p : Typed} (outer : List Waiting) (at : ℕ) → Read text (complete sum p) outer [] → Meant text (at-end (complete sum p) outer at)
+complete-meant : {text : List ℕ} {sum : Pending} {p : Typed} (outer : List Waiting) (at : ℕ) → Read text (complete sum p) outer [] → Meant text (at-end (complete sum p) outer at)
 complete-meant [] at (at-complete top before product blanks) = whole (Expression.a-sum (sums-product before product)) blanks
 complete-meant (w ∷ outer) at before = tt
 

@@ -6,8 +6,9 @@ use Prim.Native.Nat.{ℕ, _+_, _-_, _*_}
 use mathlib.Core.Bool.{Bool, true, false, cond, _&&_}
 use mathlib.Core.List.{List, [], _∷_}
 use lib.Dec.{leb, eqb}
+use Rattle.grammar.specs.declared.Operator.the-variants.{Plus, Times, Minus}
 use Rattle.grammar.specs.declared.Sign.{Sign}
-use Rattle.grammar.specs.declared.Sign.the-variants.{Digit, Plus, Times, Minus, Bang, Open, Close, Blank, Other}
+use Rattle.grammar.specs.declared.Sign.the-variants.{Digit, Joins, Bang, Open, Close, Blank, Other}
 
 -- a digit's value stands with it
 abbrev pub zero-digit : ℕ
@@ -21,9 +22,9 @@ nine-digit = 57
 unfoldable pub sign-of : ℕ → Sign
 sign-of b =
     cond (leb zero-digit b && leb b nine-digit) (Digit (b - zero-digit))
-    (cond (eqb b 43) Plus
-    (cond (eqb b 42) Times
-    (cond (eqb b 45) Minus
+    (cond (eqb b 43) (Joins Plus)
+    (cond (eqb b 42) (Joins Times)
+    (cond (eqb b 45) (Joins Minus)
     (cond (eqb b 33) Bang
     (cond (eqb b 40) Open
     (cond (eqb b 41) Close
@@ -32,9 +33,7 @@ sign-of b =
 
 abbrev pub is-other : Sign → Bool
 is-other (Digit d) = false
-is-other Plus = false
-is-other Times = false
-is-other Minus = false
+is-other (Joins o) = false
 is-other Bang = false
 is-other Open = false
 is-other Close = false
@@ -43,9 +42,7 @@ is-other Other = true
 
 abbrev pub is-digit : Sign → Bool
 is-digit (Digit d) = true
-is-digit Plus = false
-is-digit Times = false
-is-digit Minus = false
+is-digit (Joins o) = false
 is-digit Bang = false
 is-digit Open = false
 is-digit Close = false

@@ -11,8 +11,9 @@ use mathlib.Core.Path.{_≡_}
 use mathlib.Core.List.{List, [], _∷_, _++_}
 use Rattle.terms.specs.Terms.{Primitive}
 use Rattle.formula.specs.Typed.{Typed, number, complement, plus, times, minus}
+use Rattle.grammar.specs.declared.Operator.the-variants.{Plus, Times, Minus}
 use Rattle.grammar.specs.declared.Sign.{Sign}
-use Rattle.grammar.specs.declared.Sign.the-variants.{Digit, Plus, Times, Minus, Bang, Open, Close, Blank}
+use Rattle.grammar.specs.declared.Sign.the-variants.{Digit, Joins, Bang, Open, Close, Blank}
 use Rattle.grammar.specs.Bytes.{sign-of, numeral}
 
 -- "Spaces and newlines may stand anywhere but inside a number, and mean nothing." (scope 2.1)
@@ -49,16 +50,16 @@ mutual
     numbered : {s q : List ℕ} {p : Primitive} → Number s p q → Factor s (number p) q
     parenthesised : {s a b q : List ℕ} {e : Typed} → Token Open s a → Expression a e b → Token Close b q → Factor s e q
 
-  -- "A product is one or more factors joined by `*` or `-`." "Both levels group from the left." (scope 2.2)
+  -- "a product has `*` only": it is one or more factors joined by it. "Both levels group from the left." (scope 2.2)
   pub data Product : List ℕ → Typed → List ℕ → Type 0 where
     a-factor : {s q : List ℕ} {e : Typed} → Factor s e q → Product s e q
-    by-times : {s r m q : List ℕ} {a b : Typed} → Product s a r → Token Times r m → Factor m b q → Product s (times a b) q
-    by-minus : {s r m q : List ℕ} {a b : Typed} → Product s a r → Token Minus r m → Factor m b q → Product s (minus a b) q
+    by-times : {s r m q : List ℕ} {a b : Typed} → Product s a r → Token (Joins Times) r m → Factor m b q → Product s (times a b) q
 
-  -- "A sum is one or more products joined by `+`." (scope 2.2)
+  -- "a sum is products joined by `+` or `-`, grouped from the left" (scope 2.2)
   pub data Sum : List ℕ → Typed → List ℕ → Type 0 where
     a-product : {s q : List ℕ} {e : Typed} → Product s e q → Sum s e q
-    by-plus : {s r m q : List ℕ} {a b : Typed} → Sum s a r → Token Plus r m → Product m b q → Sum s (plus a b) q
+    by-plus : {s r m q : List ℕ} {a b : Typed} → Sum s a r → Token (Joins Plus) r m → Product m b q → Sum s (plus a b) q
+    by-minus : {s r m q : List ℕ} {a b : Typed} → Sum s a r → Token (Joins Minus) r m → Product m b q → Sum s (minus a b) q
 
   -- what a whole text is and what stands in parentheses: a sum
   pub data Expression : List ℕ → Typed → List ℕ → Type 0 where

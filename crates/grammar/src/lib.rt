@@ -1,15 +1,21 @@
-// What a byte of a text stands for, and the tests on it. The rest of the room is definitions and laws: what a text means, and
-// the rows of refusals 1 to 6.
+// What a byte of a text stands for, the tests on it, and how close an operator binds. The rest of the room is definitions and
+// laws: what a text means, and the rows of refusals 1 to 6.
 ghost use mathlib.Core.Path.{_≡_};
 ghost use Rattle.grammar.specs.Bytes.{sign-of, is-other, is-digit};
 ghost use Rattle.grammar.specs.twins.Places.{is-open, is-close};
+ghost use Rattle.grammar.specs.twins.Reader.{level};
+
+// What joins two operands.
+pub enum Operator {
+    Plus,
+    Times,
+    Minus,
+}
 
 // What a byte of a text stands for.
 pub enum Sign {
     Digit(u8),
-    Plus,
-    Times,
-    Minus,
+    Joins(Operator),
     Bang,
     Open,
     Close,
@@ -22,9 +28,9 @@ pub fn sign_of(byte: u8) -> Sign
 {
     match byte {
         48..=57 => Sign::Digit(byte - 48),
-        43 => Sign::Plus,
-        42 => Sign::Times,
-        45 => Sign::Minus,
+        43 => Sign::Joins(Operator::Plus),
+        42 => Sign::Joins(Operator::Times),
+        45 => Sign::Joins(Operator::Minus),
         33 => Sign::Bang,
         40 => Sign::Open,
         41 => Sign::Close,
@@ -38,9 +44,7 @@ pub fn is_other(sign: Sign) -> bool
 {
     match sign {
         Sign::Digit(_) => false,
-        Sign::Plus => false,
-        Sign::Times => false,
-        Sign::Minus => false,
+        Sign::Joins(_) => false,
         Sign::Bang => false,
         Sign::Open => false,
         Sign::Close => false,
@@ -54,9 +58,7 @@ pub fn is_digit(sign: Sign) -> bool
 {
     match sign {
         Sign::Digit(_) => true,
-        Sign::Plus => false,
-        Sign::Times => false,
-        Sign::Minus => false,
+        Sign::Joins(_) => false,
         Sign::Bang => false,
         Sign::Open => false,
         Sign::Close => false,
@@ -70,9 +72,7 @@ pub fn is_open(sign: Sign) -> bool
 {
     match sign {
         Sign::Digit(_) => false,
-        Sign::Plus => false,
-        Sign::Times => false,
-        Sign::Minus => false,
+        Sign::Joins(_) => false,
         Sign::Bang => false,
         Sign::Open => true,
         Sign::Close => false,
@@ -86,13 +86,27 @@ pub fn is_close(sign: Sign) -> bool
 {
     match sign {
         Sign::Digit(_) => false,
-        Sign::Plus => false,
-        Sign::Times => false,
-        Sign::Minus => false,
+        Sign::Joins(_) => false,
         Sign::Bang => false,
         Sign::Open => false,
         Sign::Close => true,
         Sign::Blank => false,
         Sign::Other => false,
+    }
+}
+
+// How close an operator binds: one that joins products into a sum, and one that joins factors into a product.
+pub const OF_SUMS: u8 = 1;
+
+pub const OF_PRODUCTS: u8 = 2;
+
+// The level that an operator binds at.
+pub fn level(operator: Operator) -> u8
+    ensures { λ r. ⌜ r ≡ level operator ⌝ }
+{
+    match operator {
+        Operator::Plus => OF_SUMS,
+        Operator::Times => OF_PRODUCTS,
+        Operator::Minus => OF_SUMS,
     }
 }

@@ -12,7 +12,7 @@ use lib.ListN.{length, getD, take, drop}
 use Rattle.terms.specs.Terms.{longest-text, most-digits, greatest-primitive, deepest, most-literals}
 use Rattle.terms.specs.First.{first-below, where-so}
 use Rattle.grammar.specs.declared.Sign.{Sign}
-use Rattle.grammar.specs.declared.Sign.the-variants.{Digit, Plus, Times, Minus, Bang, Open, Close, Blank, Other}
+use Rattle.grammar.specs.declared.Sign.the-variants.{Digit, Joins, Bang, Open, Close, Blank, Other}
 use Rattle.grammar.specs.Bytes.{sign-of, is-other, is-digit, numeral}
 
 abbrev pub sign-at : List ℕ → ℕ → Sign
@@ -40,9 +40,7 @@ one-if test = cond test 1 0
 
 abbrev pub is-open : Sign → Bool
 is-open (Digit d) = false
-is-open Plus = false
-is-open Times = false
-is-open Minus = false
+is-open (Joins o) = false
 is-open Bang = false
 is-open Open = true
 is-open Close = false
@@ -51,9 +49,7 @@ is-open Other = false
 
 abbrev pub is-close : Sign → Bool
 is-close (Digit d) = false
-is-close Plus = false
-is-close Times = false
-is-close Minus = false
+is-close (Joins o) = false
 is-close Bang = false
 is-close Open = false
 is-close Close = true

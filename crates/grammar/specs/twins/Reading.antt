@@ -14,14 +14,17 @@ abbrev pub grammatical : Outcome → Answer Typed
 grammatical (means e) = result e
 grammatical (stops at) = refused 5 at
 
--- "tests 1 to 8 in that order, each over the whole text before the next" (scope 7.2)
-unfoldable pub typed-reading : List ℕ → Answer Typed
-typed-reading text =
+-- "tests 1 to 8 in that order, each over the whole text before the next", by what a reader makes of the text (scope 7.2)
+abbrev pub tested : List ℕ → Outcome → Answer Typed
+tested text outcome =
     refuse 1 (over-long text)
     (refuse 2 (foreign-byte text)
     (refuse 3 (bad-run text)
     (refuse 4 (too-deep text)
-    (on-result (grammatical (read text)) (λ e. refuse 6 (surplus text) (result e))))))
+    (on-result (grammatical outcome) (λ e. refuse 6 (surplus text) (result e))))))
+
+unfoldable pub typed-reading : List ℕ → Answer Typed
+typed-reading text = tested text (read text)
 
 -- the occurrences of a whole text are numbered as typed, from 0
 unfoldable pub reading : List ℕ → Answer Expr
