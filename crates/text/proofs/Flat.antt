@@ -2,7 +2,6 @@
 -- Assumes nothing.
 use Prim.Native.Nat.{ℕ, zero, suc, _+_, _-_, _≤_, _<_}
 use mathlib.Core.Path.{_≡_, refl, sym, ap}
-use mathlib.Core.Option.{Option}
 use mathlib.Core.List.{List, [], _∷_}
 use native.Mathlib.Numerals.{add-one}
 use native.Mathlib.Omega.{arith}
@@ -10,7 +9,7 @@ use lib.ListN.{length, drop, drop-of-length-le}
 use lib.Seq.{drop-cons}
 use Rattle.formula.specs.Typed.{Typed}
 use Rattle.grammar.specs.declared.Sign.{Sign}
-use Rattle.grammar.specs.declared.Sign.the-variants.{Digit, Plus, Times, Minus, Bang, Open, Close, Blank, Other}
+use Rattle.grammar.specs.declared.Sign.the-variants.{Digit, Joins, Bang, Open, Close, Blank, Other}
 use Rattle.text.specs.declared.scan.Mode.{Mode}
 use Rattle.text.specs.declared.scan.Mode.the-variants.{Wanted, Inside, Complete}
 use Rattle.text.specs.declared.scan.Step.{Step}
@@ -19,7 +18,7 @@ use Rattle.text.specs.declared.scan.Verdict.{Verdict}
 use Rattle.text.specs.declared.scan.Verdict.the-variants.{Fits, Fault}
 use Rattle.grammar.specs.Bytes.{sign-of}
 use Rattle.grammar.specs.twins.Places.{sign-at}
-use Rattle.grammar.specs.twins.Reader.{Waiting, State, wanted, inside, complete, Next, stuck, go, closing, on-complete, next-state, closed, at-end, onward, Outcome, means, stops, read-from, read}
+use Rattle.grammar.specs.twins.Reader.{Pending, Waiting, State, wanted, inside, complete, Next, stuck, go, closing, on-complete, next-state, closed, at-end, onward, Outcome, means, stops, read-from, read}
 use Rattle.text.specs.code.Flat.{verdict, flat-close, flat-complete, flat-step, flat-closed, flat-end, flat-onward, flat-from}
 
 -- the reader's state and what it leads to, with nothing but the mode and the count
@@ -36,11 +35,9 @@ close-agrees : (e : Typed) (outer : List Waiting) → step-of (closing e outer) 
 close-agrees e [] = refl
 close-agrees e (w ∷ outer) = refl
 
-complete-agrees : (sum : Option Typed) (p : Typed) (k : Sign) (outer : List Waiting) → step-of (on-complete sum p k outer) ≡ flat-complete k (length outer)
+complete-agrees : (sum : Pending) (p : Typed) (k : Sign) (outer : List Waiting) → step-of (on-complete sum p k outer) ≡ flat-complete k (length outer)
 complete-agrees sum p (Digit d) outer = refl
-complete-agrees sum p Plus outer = refl
-complete-agrees sum p Times outer = refl
-complete-agrees sum p Minus outer = refl
+complete-agrees sum p (Joins o) outer = refl
 complete-agrees sum p Bang outer = refl
 complete-agrees sum p Open outer = refl
 complete-agrees sum p Close outer = close-agrees _ outer
@@ -49,18 +46,14 @@ complete-agrees sum p Other outer = refl
 
 step-agrees : (st : State) (k : Sign) (outer : List Waiting) → step-of (next-state st k outer) ≡ flat-step (mode-of st) k (length outer)
 step-agrees (wanted w) (Digit d) outer = refl
-step-agrees (wanted w) Plus outer = refl
-step-agrees (wanted w) Times outer = refl
-step-agrees (wanted w) Minus outer = refl
+step-agrees (wanted w) (Joins o) outer = refl
 step-agrees (wanted w) Bang outer = refl
 step-agrees (wanted w) Open outer = refl
 step-agrees (wanted w) Close outer = refl
 step-agrees (wanted w) Blank outer = refl
 step-agrees (wanted w) Other outer = refl
 step-agrees (inside w v) (Digit d) outer = refl
-step-agrees (inside w v) Plus outer = refl
-step-agrees (inside w v) Times outer = refl
-step-agrees (inside w v) Minus outer = refl
+step-agrees (inside w v) (Joins o) outer = refl
 step-agrees (inside w v) Bang outer = refl
 step-agrees (inside w v) Open outer = refl
 step-agrees (inside w v) Close outer = close-agrees _ outer
@@ -126,9 +119,7 @@ close-less (suc depth) = omega arith
 
 complete-less : (k : Sign) (depth : ℕ) → open-of (flat-complete k depth) ≤ suc depth
 complete-less (Digit d) depth = omega arith
-complete-less Plus depth = omega arith
-complete-less Times depth = omega arith
-complete-less Minus depth = omega arith
+complete-less (Joins o) depth = omega arith
 complete-less Bang depth = omega arith
 complete-less Open depth = omega arith
 complete-less Close depth = close-less depth
@@ -137,18 +128,14 @@ complete-less Other depth = omega arith
 
 step-less : (mode : Mode) (k : Sign) (depth : ℕ) → open-of (flat-step mode k depth) ≤ suc depth
 step-less Wanted (Digit d) depth = omega arith
-step-less Wanted Plus depth = omega arith
-step-less Wanted Times depth = omega arith
-step-less Wanted Minus depth = omega arith
+step-less Wanted (Joins o) depth = omega arith
 step-less Wanted Bang depth = omega arith
 step-less Wanted Open depth = omega arith
 step-less Wanted Close depth = omega arith
 step-less Wanted Blank depth = omega arith
 step-less Wanted Other depth = omega arith
 step-less Inside (Digit d) depth = omega arith
-step-less Inside Plus depth = omega arith
-step-less Inside Times depth = omega arith
-step-less Inside Minus depth = omega arith
+step-less Inside (Joins o) depth = omega arith
 step-less Inside Bang depth = omega arith
 step-less Inside Open depth = omega arith
 step-less Inside Close depth = close-less depth

@@ -2,30 +2,29 @@
 -- Assumes nothing.
 use Prim.Native.Nat.{ℕ, suc, _+_, _-_, _≤_, _<_}
 use mathlib.Core.Path.{_≡_, refl, ap, _∙_}
-use mathlib.Core.Bool.{Bool, false, not}
-use mathlib.Core.Logic.{_⊎_, inl, inr}
-use mathlib.Core.Option.{Option, none, some}
+use mathlib.Core.Bool.{Bool}
 use mathlib.Core.List.{List}
 use native.Mathlib.Decide.{decLt}
 use native.Mathlib.Omega.{arith}
 use lib.ListN.{length, set}
 use Rattle.formula.specs.Formula.{Kind, Expr, join}
-use Rattle.formula.specs.Typed.{Typed, plus, times, minus, numbers}
+use Rattle.formula.specs.Typed.{Typed, numbers}
 use Rattle.formula.specs.code.Held.{nodes, join-number, Holds}
 use Rattle.formula.proofs.Held.{holds-joint, intersects}
+use Rattle.grammar.specs.declared.Operator.{Operator}
+use Rattle.grammar.specs.declared.Operator.the-variants.{Times}
 use Rattle.grammar.specs.declared.Sign.{Sign}
-use Rattle.grammar.specs.declared.Sign.the-variants.{Plus, Times, Minus}
 use Rattle.text.specs.declared.readers.Part.{Part}
 use Rattle.text.specs.declared.readers.Part.the-variants.{At, Fault}
-use Rattle.grammar.specs.Bytes.{is-digit}
 use Rattle.grammar.specs.twins.Places.{sign-at}
-use Rattle.grammar.specs.twins.Reader.{by-times, by-minus, Waiting, wanted, complete, complemented, added, next-state}
-use Rattle.text.specs.code.Readers.{behind, binding, after, form, Slots, slots, Kept, Ready, most-slots, FactorMeans, FactorStops, ProductMeans, ProductStops, SumMeans, SumStops, Built, PartRead, read, reads-on}
-use Rattle.text.proofs.ReadSigns.{product-is, sum-is}
+use Rattle.grammar.specs.twins.Reader.{of-sums, of-products, applied, Pending, alone, half, Waiting, wanted, complete, complemented, awaiting, next-state}
+use Rattle.grammar.proofs.Numbers.{numbers-applied}
+use Rattle.text.specs.code.Readers.{of-factors, right-sense, behind, intersecting, meets, binding, after, form, Slots, slots, Kept, Ready, most-slots, FactorMeans, FactorStops, ProductMeans, ProductStops, SumMeans, SumStops, Built, PartRead, read, reads-on}
+use Rattle.text.proofs.ReadSigns.{binds-no-digit, times-is, OfSums, sum-is}
 use Rattle.text.proofs.ReadSteps.{beyond, step-on}
 use Rattle.text.proofs.ReadRuns.{runs-kept, clear-after}
 use Rattle.text.proofs.ScanRuns.{runs-up}
-use Rattle.text.proofs.ReadForms.{numbers-some, form-nodes, kind-in, kind-number, form-times, form-minus, form-plus, kept-refl, kept-trans, kept-set, holds-below}
+use Rattle.text.proofs.ReadForms.{numbers-some, form-nodes, kind-in, kind-number, form-applied, kept-refl, kept-trans, kept-set, holds-below}
 
 -- a part's reading, by the answer's variant
 module _ {Means : List ℕ → ℕ → ℕ → Typed → Type 0} {Stops : List ℕ → ℕ → ℕ → Type 0} {level : ℕ} {text : List ℕ} {at : ℕ} {sense : Bool}
@@ -43,7 +42,7 @@ module _ {Means : List ℕ → ℕ → ℕ → Typed → Type 0} {Stops : List �
   pub missed : {r : Part} {p : ℕ} → r ≡ Fault p → PartRead Means Stops level text at sense start a b r → Stops text at p
   missed e h = stopped (rw e at h)
 
--- an operator stands in the text, and is no digit
+-- an operator stands in the text
 pub binds-stands : (text : List ℕ) (i : ℕ) → 1 ≤ binding (sign-at text i) → i < length text
 binds-stands text i h = go-on (decLt i (length text))
   where
@@ -51,22 +50,11 @@ binds-stands text i h = go-on (decLt i (length text))
     go-on (yes l) = l
     go-on (no f) = absurd (let e = ap binding (beyond text i (omega arith)) in omega arith)
 
-binds-no-digit : (k : Sign) → 1 ≤ binding k → is-digit k ≡ false
-binds-no-digit k h = go-on (decLt (binding k) 2)
-  where
-    go-on : Dec (binding k < 2) → is-digit k ≡ false
-    go-on (yes l) = ap is-digit (sum-is k h l)
-    go-on (no f) = either (product-is k (omega arith))
-      where
-        either : (k ≡ Times) ⊎ (k ≡ Minus) → is-digit k ≡ false
-        either (inl e) = ap is-digit e
-        either (inr e) = ap is-digit e
-
 -- an operator's node behind its two operands
-joined : (kd : Kind) (l r : Expr) (start n m : ℕ) (c : Slots) → n ≡ start + nodes l → m ≡ n + nodes r → 1 ≤ n
+node-joined : (kd : Kind) (l r : Expr) (start n m : ℕ) (c : Slots) → n ≡ start + nodes l → m ≡ n + nodes r → 1 ≤ n
     → m < length (c .kinds) → m < length (c .spans) → Holds (c .kinds) (c .spans) (n - 1) l → Holds (c .kinds) (c .spans) (m - 1) r
     → Holds (set (c .kinds) m (join-number (intersects kd))) (set (c .spans) m (m + 1 - start)) m (join kd l r)
-joined kd l r start n m c e f pos hk hs a b =
+node-joined kd l r start n m c e f pos hk hs a b =
     let span : m + 1 - start ≡ suc (nodes l + nodes r) = omega arith in
     let left : n - 1 ≡ m - 1 - nodes r = omega arith in
     rw span (holds-joint (c .kinds) (c .spans) m kd l r hk hs (omega arith) (rw left at a) b)
@@ -112,23 +100,24 @@ module _ {M : List ℕ → ℕ → ℕ → Typed → Type 0} {lv : ℕ} {text : 
       }
 
   -- two operands and the operator between them
-  chained : (P : List ℕ → ℕ → ℕ → Typed → Type 0) (e : Typed) (kd : Kind) {N : List ℕ → ℕ → ℕ → Typed → Type 0} {lw : ℕ} {s : Bool} {c : Slots} {j m : ℕ}
-      (g : Built N lw text (i + 1) s n b c j m) → P text at j e → numbers e ≡ numbers (k .meaning) + numbers (g .meaning)
-      → ((x : ℕ) → form sense x e ≡ join kd (form sense x (k .meaning)) (form s (x + numbers (k .meaning)) (g .meaning)))
-      → {ks ss : List ℕ} → ks ≡ set (c .kinds) m (join-number (intersects kd)) → ss ≡ set (c .spans) m (m + 1 - start)
+  chained : (P : List ℕ → ℕ → ℕ → Typed → Type 0) (o : Operator) {N : List ℕ → ℕ → ℕ → Typed → Type 0} {lw : ℕ} {s : Bool} {c : Slots} {j m : ℕ}
+      (g : Built N lw text (i + 1) s n b c j m) → s ≡ right-sense o sense → P text at j (applied o (k .meaning) (g .meaning))
+      → {ks ss : List ℕ} → ks ≡ set (c .kinds) m (join-number (intersecting o sense)) → ss ≡ set (c .spans) m (m + 1 - start)
       → Built P lw text at sense start z (slots ks ss) j (m + 1)
-  chained P e kd {s = s} {c = c} {m = m} g p many shape eks ess =
+  chained P o {s = s} {c = c} {m = m} g sensed p {ks = ks} eks ess =
       let d = binds-no-digit (sign-at text i) h in
       let q = runs-kept text i d in
-      let o = room g in
+      let fits = room g in
       let x = numbers-some (k .meaning) in
       let y = numbers-some (g .meaning) in
+      let both = numbers-applied o (k .meaning) (g .meaning) in
       let back : m + 1 - 1 ≡ m = omega arith in
-      let first = o .left in
-      let second = o .right in
-      rw (eks, ess)
+      let first = fits .left in
+      let second = fits .right in
+      let made : ks ≡ set (c .kinds) m (join-number (intersects (kind-in (intersecting o sense)))) = rw (kind-number (intersecting o sense)) eks in
+      rw (made, ess)
       (record {
-        meaning = e;
+        meaning = applied o (k .meaning) (g .meaning);
         means = p;
         past = omega (arith, k .past, g .past);
         within = g .within;
@@ -136,13 +125,13 @@ module _ {M : List ℕ → ℕ → ℕ → Typed → Type 0} {lv : ℕ} {text : 
         lower = g .lower;
         counted = omega (arith, k .counted, g .counted);
         filled = omega (arith, k .filled, g .filled);
-        holds = λ v. rw (back, shape v)
-            (joined kd (form sense v (k .meaning)) (form s (v + numbers (k .meaning)) (g .meaning)) start n m c
+        holds = λ v. rw (back, form-applied o sense v (k .meaning) (g .meaning), ← sensed)
+            (node-joined (kind-in (intersecting o sense)) (form sense v (k .meaning)) (form s (v + numbers (k .meaning)) (g .meaning)) start n m c
             (omega (arith, k .filled, form-nodes sense v (k .meaning)))
             (omega (arith, g .filled, form-nodes s (v + numbers (k .meaning)) (g .meaning)))
             (omega (arith, k .filled))
-            (omega (arith, o .below, o .kinds-room))
-            (omega (arith, o .below, o .spans-room))
+            (omega (arith, fits .below, fits .kinds-room))
+            (omega (arith, fits .below, fits .spans-room))
             (holds-below (omega (arith, k .filled)) (g .kept) (k .holds v))
             (g .holds (v + numbers (k .meaning))));
         kept = kept-trans first (k .kept) (kept-trans second (g .kept) (kept-set m _ _ c));
@@ -182,80 +171,55 @@ chain-end f k l =
     }
 
 -- a product
-pub product-first : {text : List ℕ} {at start next n : ℕ} {sense : Bool} {a b : Slots} → Built FactorMeans 3 text at sense start a b next n
-    → Built ProductMeans 3 text at sense start b b next n
+pub product-first : {text : List ℕ} {at start next n : ℕ} {sense : Bool} {a b : Slots} → Built FactorMeans of-factors text at sense start a b next n
+    → Built ProductMeans of-factors text at sense start b b next n
 unfolding complemented
 product-first g = chain-first {N = ProductMeans} g (λ sum outer. g .means (after sum) outer)
 
 module _ {text : List ℕ} {at start i n : ℕ} {sense : Bool} {a z b : Slots} (u : Ready text at start a) (f : Kept start a z)
-    (k : Built ProductMeans 3 text at sense start z b i n) (h : 2 ≤ binding (sign-at text i)) where
+    (k : Built ProductMeans of-factors text at sense start z b i n) (h : of-products ≤ binding (sign-at text i)) where
   -- the machine at the operator
-  at-times : sign-at text i ≡ Times → (sum : Option Typed) (outer : List Waiting)
-      → reads-on text (wanted (after sum)) outer at ≡ reads-on text (wanted (record { sum = sum; product = by-times (k .meaning); complements = 0 })) outer (i + 1)
-  at-times e sum outer = k .means sum outer
+  at-times : (sum : Pending) (outer : List Waiting) → reads-on text (wanted (after sum)) outer at ≡ reads-on text (wanted (awaiting of-products sum (k .meaning) Times)) outer (i + 1)
+  at-times sum outer = k .means sum outer
       ∙ step-on text i (complete sum (k .meaning)) _ outer outer (binds-stands text i (omega arith))
-      (ap (λ (x : Sign). next-state (complete sum (k .meaning)) x outer) e)
+      (ap (λ (x : Sign). next-state (complete sum (k .meaning)) x outer) (times-is (sign-at text i) h))
 
-  at-minus : sign-at text i ≡ Minus → (sum : Option Typed) (outer : List Waiting)
-      → reads-on text (wanted (after sum)) outer at ≡ reads-on text (wanted (record { sum = sum; product = by-minus (k .meaning); complements = 0 })) outer (i + 1)
-  at-minus e sum outer = k .means sum outer
-      ∙ step-on text i (complete sum (k .meaning)) _ outer outer (binds-stands text i (omega arith))
-      (ap (λ (x : Sign). next-state (complete sum (k .meaning)) x outer) e)
-
-  product-by : (sign-at text i ≡ Times) ⊎ (sign-at text i ≡ Minus) → {s : Bool} {c : Slots} {j m : ℕ} → s ≡ behind (sign-at text i) sense
-      → Built FactorMeans 3 text (i + 1) s n b c j m → {ks ss : List ℕ} → ks ≡ set (c .kinds) m (join-number sense) → ss ≡ set (c .spans) m (m + 1 - start)
-      → Built ProductMeans 3 text at sense start z (slots ks ss) j (m + 1)
-  unfolding complemented numbers
-  product-by (inl e) {s} sensed g eks ess =
-      let same : s ≡ sense = sensed ∙ ap (λ (x : Sign). behind x sense) e in
-      chained u f k (omega arith) ProductMeans (times (k .meaning) (g .meaning)) (kind-in sense) g
-      (λ sum outer. at-times e sum outer ∙ g .means (record { sum = sum; product = by-times (k .meaning); complements = 0 }) outer)
-      refl (λ x. rw same (form-times sense x (k .meaning) (g .meaning))) (rw (kind-number sense) eks) ess
-  product-by (inr e) {s} sensed g eks ess =
-      let same : s ≡ not sense = sensed ∙ ap (λ (x : Sign). behind x sense) e in
-      chained u f k (omega arith) ProductMeans (minus (k .meaning) (g .meaning)) (kind-in sense) g
-      (λ sum outer. at-minus e sum outer ∙ g .means (record { sum = sum; product = by-minus (k .meaning); complements = 0 }) outer)
-      refl (λ x. rw same (form-minus sense x (k .meaning) (g .meaning))) (rw (kind-number sense) eks) ess
-
-  pub product-again : {s : Bool} {c : Slots} {j m : ℕ} → s ≡ behind (sign-at text i) sense
-      → Built FactorMeans 3 text (i + 1) s n b c j m → {ks ss : List ℕ} → ks ≡ set (c .kinds) m (join-number sense) → ss ≡ set (c .spans) m (m + 1 - start)
-      → Built ProductMeans 3 text at sense start z (slots ks ss) j (m + 1)
-  product-again = product-by (product-is (sign-at text i) h)
-
-  late-by : (sign-at text i ≡ Times) ⊎ (sign-at text i ≡ Minus) → {p : ℕ} → FactorStops text (i + 1) p → ProductStops text at p
-  late-by (inl e) g = λ sum outer. at-times e sum outer ∙ g _ outer
-  late-by (inr e) g = λ sum outer. at-minus e sum outer ∙ g _ outer
+  pub product-again : {c : Slots} {j m : ℕ} → Built FactorMeans of-factors text (i + 1) sense n b c j m
+      → {ks ss : List ℕ} → ks ≡ set (c .kinds) m (join-number sense) → ss ≡ set (c .spans) m (m + 1 - start)
+      → Built ProductMeans of-factors text at sense start z (slots ks ss) j (m + 1)
+  unfolding complemented
+  product-again g =
+      chained u f k (omega arith) ProductMeans Times g refl (λ sum outer. at-times sum outer ∙ g .means (awaiting of-products sum (k .meaning) Times) outer)
 
   pub product-late : {p : ℕ} → FactorStops text (i + 1) p → ProductStops text at p
-  product-late = late-by (product-is (sign-at text i) h)
+  product-late g = λ sum outer. at-times sum outer ∙ g _ outer
 
 -- a sum
-pub sum-first : {text : List ℕ} {at start next n : ℕ} {sense : Bool} {a b : Slots} → Built ProductMeans 2 text at sense start a b next n
-    → Built SumMeans 2 text at sense start b b next n
-sum-first g = chain-first {N = SumMeans} g (record { sum = none; product = g .meaning; is = refl; reads = λ outer. g .means none outer })
+pub sum-first : {text : List ℕ} {at start next n : ℕ} {sense : Bool} {a b : Slots} → Built ProductMeans of-products text at sense start a b next n
+    → Built SumMeans of-products text at sense start b b next n
+sum-first g = chain-first {N = SumMeans} g (record { sum = alone; product = g .meaning; is = refl; reads = λ outer. g .means alone outer })
 
 module _ {text : List ℕ} {at start i n : ℕ} {sense : Bool} {a z b : Slots} (u : Ready text at start a) (f : Kept start a z)
-    (k : Built SumMeans 2 text at sense start z b i n) (h : 1 ≤ binding (sign-at text i)) where
-  here : sign-at text i ≡ Plus
+    (k : Built SumMeans of-products text at sense start z b i n) (h : of-sums ≤ binding (sign-at text i)) where
+  here : OfSums (sign-at text i)
   here = sum-is (sign-at text i) h (k .lower)
 
-  at-plus : (outer : List Waiting) → reads-on text (wanted (after none)) outer at ≡ reads-on text (wanted (after (some (k .meaning)))) outer (i + 1)
-  at-plus outer =
+  -- the machine at the operator
+  at-operator : (outer : List Waiting) → reads-on text (wanted (after alone)) outer at ≡ reads-on text (wanted (after (half (k .meaning) (here .operator)))) outer (i + 1)
+  at-operator outer =
       let m = k .means in
       m .reads outer
-      ∙ step-on text i (complete (m .sum) (m .product)) (wanted (after (some (added (m .sum) (m .product))))) outer outer (binds-stands text i h)
-      (ap (λ (x : Sign). next-state (complete (m .sum) (m .product)) x outer) here)
-      ∙ ap (λ (x : Typed). reads-on text (wanted (after (some x))) outer (i + 1)) (m .is)
+      ∙ step-on text i (complete (m .sum) (m .product)) (wanted (after (half (k .meaning) (here .operator)))) outer outer (binds-stands text i h)
+      (rw (here .is, here .binds, m .is))
 
-  pub sum-again : {s : Bool} {c : Slots} {j m : ℕ} → s ≡ behind (sign-at text i) sense
-      → Built ProductMeans 2 text (i + 1) s n b c j m → {ks ss : List ℕ} → ks ≡ set (c .kinds) m (join-number (not sense))
-      → ss ≡ set (c .spans) m (m + 1 - start) → Built SumMeans 2 text at sense start z (slots ks ss) j (m + 1)
-  unfolding numbers
-  sum-again {s} sensed g eks ess =
-      let same : s ≡ sense = sensed ∙ ap (λ (x : Sign). behind x sense) here in
-      chained u f k h SumMeans (plus (k .meaning) (g .meaning)) (kind-in (not sense)) g
-      (record { sum = some (k .meaning); product = g .meaning; is = refl; reads = λ outer. at-plus outer ∙ g .means (some (k .meaning)) outer })
-      refl (λ x. rw same (form-plus sense x (k .meaning) (g .meaning))) (rw (kind-number (not sense)) eks) ess
+  pub sum-again : {s t : Bool} {c : Slots} {j m : ℕ} → s ≡ behind (sign-at text i) sense → t ≡ meets (sign-at text i) sense
+      → Built ProductMeans of-products text (i + 1) s n b c j m → {ks ss : List ℕ} → ks ≡ set (c .kinds) m (join-number t)
+      → ss ≡ set (c .spans) m (m + 1 - start) → Built SumMeans of-products text at sense start z (slots ks ss) j (m + 1)
+  sum-again sensed met g eks ess =
+      let o = here .operator in
+      chained u f k h SumMeans o g (sensed ∙ ap (λ (x : Sign). behind x sense) (here .is))
+      (record { sum = half (k .meaning) o; product = g .meaning; is = refl; reads = λ outer. at-operator outer ∙ g .means (half (k .meaning) o) outer })
+      (rw (← (met ∙ ap (λ (x : Sign). meets x sense) (here .is))) eks) ess
 
   pub sum-late : {p : ℕ} → ProductStops text (i + 1) p → SumStops text at p
-  sum-late g = λ outer. at-plus outer ∙ g (some (k .meaning)) outer
+  sum-late g = λ outer. at-operator outer ∙ g (half (k .meaning) (here .operator)) outer

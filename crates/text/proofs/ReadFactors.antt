@@ -15,13 +15,15 @@ use Rattle.text.specs.declared.readers.Part.the-variants.{At, Fault}
 use Rattle.text.specs.declared.readers.Numeral.{Numeral}
 use Rattle.grammar.specs.Bytes.{is-digit}
 use Rattle.grammar.specs.twins.Places.{sign-at, is-open, is-close}
-use Rattle.grammar.specs.twins.Reader.{Waiting, nothing, wanted, complete, complemented, product-with, next-state, closing}
-use Rattle.text.specs.code.Readers.{leads, complementing, Slots, slots, most-slots, Ready, Skipped, Passed, Numbered, FactorMeans, FactorStops, SumMeans, Built, PartRead, read, FactorRead, SumRead, Closed, shut, missing, reads-on}
-use Rattle.text.proofs.ReadSigns.{open-is, close-is, wanted-stuck, complete-stuck, binding-low}
+use Rattle.grammar.specs.twins.Reader.{of-sums, Waiting, nothing, wanted, complete, complemented, product-with, next-state, closing}
+use Rattle.text.specs.code.Readers.{of-factors, leads, complementing, Slots, slots, most-slots, Ready, Skipped, Passed, Numbered, FactorMeans, FactorStops, SumMeans, Built, PartRead, read, FactorRead, SumRead, Closed, shut, missing, reads-on}
+use Rattle.grammar.proofs.Signs.{is-open-true, is-close-true}
+use Rattle.grammar.proofs.Numbers.{numbers-complemented}
+use Rattle.text.proofs.ReadSigns.{wanted-stuck, complete-stuck, binding-low}
 use Rattle.text.proofs.ReadSteps.{stands, step-on, step-stuck}
 use Rattle.text.proofs.ReadRuns.{runs-kept, clear-after}
 use Rattle.text.proofs.ScanRuns.{runs-up}
-use Rattle.text.proofs.ReadForms.{form-number, form-complemented, numbers-complemented, product-complemented, kept-set}
+use Rattle.text.proofs.ReadForms.{form-number, form-complemented, product-complemented, kept-set}
 
 -- what stands behind a part that was read in parentheses
 module _ (text : List ℕ) {part : Part} where
@@ -102,7 +104,7 @@ pub ready-inner : {text : List ℕ} {at i next : ℕ} {sense s : Bool} {a : Slot
     → is-open (sign-at text i) ≡ true → Ready text (i + 1) next a
 ready-inner {text} {at} {i} g p o =
     let h = open-stands text i o in
-    let k = ap is-digit (open-is (sign-at text i) o) in
+    let k = ap is-digit (is-open-true (sign-at text i) o) in
     let q = runs-kept text i k in
     record {
       within = omega arith;
@@ -131,15 +133,15 @@ module _ (text : List ℕ) (i : ℕ) (o : is-open (sign-at text i) ≡ true) whe
   opened : (w : Waiting) (outer : List Waiting) → reads-on text (wanted w) outer i ≡ reads-on text (wanted nothing) (w ∷ outer) (i + 1)
   opened w outer =
       step-on text i (wanted w) (wanted nothing) outer (w ∷ outer) (open-stands text i o)
-      (ap (λ (x : Sign). next-state (wanted w) x outer) (open-is (sign-at text i) o))
+      (ap (λ (x : Sign). next-state (wanted w) x outer) (is-open-true (sign-at text i) o))
 
-  inner-shut : {j n l next : ℕ} {s : Bool} {a b : Slots} → Built SumMeans 1 text (i + 1) s next a b j n → is-close (sign-at text j) ≡ true → Skipped text (j + 1) l
-      → Built FactorMeans 3 text i s next a b l n
+  inner-shut : {j n l next : ℕ} {s : Bool} {a b : Slots} → Built SumMeans of-sums text (i + 1) s next a b j n → is-close (sign-at text j) ≡ true → Skipped text (j + 1) l
+      → Built FactorMeans of-factors text i s next a b l n
   inner-shut {j} {n} {l} g c k =
       let e = g .meaning in
       let m = g .means in
-      let here = close-is (sign-at text j) c in
-      let q = runs-kept text i (ap is-digit (open-is (sign-at text i) o)) in
+      let here = is-close-true (sign-at text j) c in
+      let q = runs-kept text i (ap is-digit (is-open-true (sign-at text i) o)) in
       let q′ = runs-kept text j (ap is-digit here) in
       record {
         meaning = e;
@@ -158,7 +160,7 @@ module _ (text : List ℕ) (i : ℕ) (o : is-open (sign-at text i) ≡ true) whe
         kept = g .kept;
       }
 
-  inner-missing : {j n next : ℕ} {s : Bool} {a b : Slots} → Built SumMeans 1 text (i + 1) s next a b j n → is-close (sign-at text j) ≡ false → FactorStops text i j
+  inner-missing : {j n next : ℕ} {s : Bool} {a b : Slots} → Built SumMeans of-sums text (i + 1) s next a b j n → is-close (sign-at text j) ≡ false → FactorStops text i j
   inner-missing {j} g c =
       let m = g .means in
       λ w outer. opened w outer

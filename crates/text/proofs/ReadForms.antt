@@ -12,8 +12,11 @@ use Rattle.formula.specs.Formula.{Kind, union, intersection, Expr, join, litera
 use Rattle.formula.specs.Typed.{Typed, number, complement, plus, times, minus, numbers, occurs, positive, negative}
 use Rattle.formula.specs.code.Held.{nodes, Holds}
 use Rattle.formula.proofs.Held.{nodes-literals, holds-kept, intersects}
-use Rattle.grammar.specs.twins.Reader.{Waiting, complemented, product-with, multiplied}
-use Rattle.text.specs.code.Readers.{more, complementing, flipped, form, Slots, slots, Kept}
+use Rattle.grammar.specs.declared.Operator.{Operator}
+use Rattle.grammar.specs.declared.Operator.the-variants.{Plus, Times, Minus}
+use Rattle.grammar.specs.twins.Reader.{applied, joined, Waiting, complemented, product-with}
+use Rattle.grammar.proofs.Complete.{complemented-complement}
+use Rattle.text.specs.code.Readers.{right-sense, intersecting, more, complementing, flipped, form, Slots, slots, Kept}
 
 pub numbers-some : (e : Typed) → 1 ≤ numbers e
 unfolding numbers
@@ -59,20 +62,15 @@ pub kind-number : (sense : Bool) → intersects (kind-in sense) ≡ sense
 kind-number true = refl
 kind-number false = refl
 
-pub form-times : (sense : Bool) (k : ℕ) (a b : Typed) → form sense k (times a b) ≡ join (kind-in sense) (form sense k a) (form sense (k + numbers a) b)
+pub form-applied : (o : Operator) (sense : Bool) (k : ℕ) (a b : Typed)
+    → form sense k (applied o a b) ≡ join (kind-in (intersecting o sense)) (form sense k a) (form (right-sense o sense) (k + numbers a) b)
 unfolding positive negative
-form-times true k a b = refl
-form-times false k a b = refl
-
-pub form-minus : (sense : Bool) (k : ℕ) (a b : Typed) → form sense k (minus a b) ≡ join (kind-in sense) (form sense k a) (form (not sense) (k + numbers a) b)
-unfolding positive negative
-form-minus true k a b = refl
-form-minus false k a b = refl
-
-pub form-plus : (sense : Bool) (k : ℕ) (a b : Typed) → form sense k (plus a b) ≡ join (kind-in (not sense)) (form sense k a) (form sense (k + numbers a) b)
-unfolding positive negative
-form-plus true k a b = refl
-form-plus false k a b = refl
+form-applied Plus true k a b = refl
+form-applied Plus false k a b = refl
+form-applied Times true k a b = refl
+form-applied Times false k a b = refl
+form-applied Minus true k a b = refl
+form-applied Minus false k a b = refl
 
 -- so many complements
 flipped-not : (c : ℕ) (sense : Bool) → flipped c (not sense) ≡ not (flipped c sense)
@@ -86,23 +84,13 @@ form-complemented zero sense k e = refl
 form-complemented (suc c) sense k e =
     form-complement sense k (complemented c e) ∙ form-complemented c (not sense) k e ∙ ap (λ (s : Bool). form s k e) (flipped-not c sense)
 
-pub numbers-complemented : (c : ℕ) (e : Typed) → numbers (complemented c e) ≡ numbers e
-unfolding complemented numbers
-numbers-complemented zero e = refl
-numbers-complemented (suc c) e = numbers-complemented c e
-
-complemented-within : (n : ℕ) (e : Typed) → complemented n (complement e) ≡ complement (complemented n e)
-unfolding complemented
-complemented-within zero e = refl
-complemented-within (suc n) e = ap complement (complemented-within n e)
-
 complemented-more : (c n : ℕ) (e : Typed) → complemented (more c n) e ≡ complemented n (complemented c e)
 unfolding complemented more
 complemented-more zero n e = refl
-complemented-more (suc c) n e = ap complement (complemented-more c n e) ∙ sym (complemented-within n (complemented c e))
+complemented-more (suc c) n e = ap complement (complemented-more c n e) ∙ sym (complemented-complement n (complemented c e))
 
 pub product-complemented : (c : ℕ) (w : Waiting) (e : Typed) → product-with (complementing c w) e ≡ product-with w (complemented c e)
-product-complemented c w e = ap (multiplied (w .product)) (complemented-more c (w .complements) e)
+product-complemented c w e = ap (joined (w .product)) (complemented-more c (w .complements) e)
 
 -- what stands below a slot is kept
 pub kept-refl : (n : ℕ) (a : Slots) → Kept n a a

@@ -18,7 +18,8 @@ use Rattle.grammar.specs.Bytes.{is-digit, numeral-from}
 use Rattle.grammar.specs.twins.Places.{sign-at, no-digit-before, run-at, runs-before, bad-run}
 use Rattle.grammar.specs.twins.Reader.{Waiting, wanted, inside, complete, product-with, next-state}
 use Rattle.text.specs.code.Readers.{is-blank, leads, behind, more, flipped, complementing, reads-on, Over, Passed, Numbered}
-use Rattle.text.proofs.ReadSigns.{pass-is, blank-is, digit-is, inside-ended, tested}
+use Rattle.grammar.proofs.Complete.{inside-another}
+use Rattle.text.proofs.ReadSigns.{pass-is, blank-is, digit-is, tested}
 use Rattle.text.proofs.ReadSteps.{stands, step-on, step-same}
 use Rattle.text.proofs.ReadRuns.{runs-kept, runs-start, runs-inside, clear-after, digit-after, number-small, numeral-step}
 use Rattle.text.proofs.ScanBad.{numeral-grows}
@@ -157,5 +158,5 @@ module _ {text : List ℕ} {at i v : ℕ} (p : Digits text at i v) where
         runs = p .runs;
         reads = λ w outer. p .reads w outer
             ∙ step-same text i (inside w v) (complete (w .sum) (product-with w (number v))) outer (p .within)
-            (inside-ended w v outer (sign-at text i) d) refl;
+            (inside-another w v (sign-at text i) outer d) refl;
       }

@@ -22,7 +22,7 @@ use Rattle.text.specs.declared.scan.Verdict.the-variants as verdicts-are
 use Rattle.text.specs.declared.scan.Found.{Found}
 use Rattle.text.specs.declared.scan.Found.the-variants as found-is
 use Rattle.grammar.specs.twins.Places.{run-starts, runs-before, foreign-byte, bad-run, too-deep, surplus-at, surplus}
-use Rattle.grammar.specs.twins.Reader.{complete, means, stops, read-from, read}
+use Rattle.grammar.specs.twins.Reader.{of-sums, complete, means, stops, read-from, read}
 use Rattle.grammar.specs.twins.Reading.{typed-reading, reading}
 use Rattle.text.specs.code.Found.{found-as}
 use Rattle.text.specs.code.Flat.{verdict}
@@ -38,7 +38,7 @@ use Rattle.text.proofs.ScanRuns.{surplus-none}
 use Rattle.text.proofs.ScanTests.{by-test}
 
 -- the expression ends with the text, or does not
-module _ {text : List ℕ} {a b : Slots} {i n : ℕ} (g : Built SumMeans 1 text 0 true 0 a b i n) where
+module _ {text : List ℕ} {a b : Slots} {i n : ℕ} (g : Built SumMeans of-sums text 0 true 0 a b i n) where
   pub whole-read : Ready text 0 0 a → i ≡ length text → WholeRead text b (At i n)
   unfolding read read-from runs-before
   whole-read u e =

@@ -14,7 +14,8 @@ use borrow.Author.Tests.{ltb-true, ltb-false, leb-false, eqb-true, eqb-false, lt
 use Rattle.terms.specs.First.{first-from}
 use Rattle.terms.specs.Terms.{most-digits, greatest-primitive}
 use Rattle.grammar.specs.declared.Sign.{Sign}
-use Rattle.grammar.specs.declared.Sign.the-variants.{Plus, Times, Minus, Bang, Open, Close, Blank, Other}
+use Rattle.grammar.specs.declared.Operator.the-variants.{Plus, Times, Minus}
+use Rattle.grammar.specs.declared.Sign.the-variants.{Joins, Bang, Open, Close, Blank, Other}
 use Rattle.grammar.specs.Bytes.{sign-of, is-digit, zero-digit, nine-digit, shifted, numeral-from, numeral}
 use Rattle.grammar.specs.twins.Places.{sign-at, no-digit-before, run-starts, leading-digits, run-at, too-large, bad-run-at}
 use Rattle.text.specs.code.DigitRun.{digit-of, grown, RunRead}
@@ -23,7 +24,7 @@ use Rattle.text.proofs.ScanTests.{by-test, not-both}
 
 -- behind the test for digits no sign is one
 no-digit-else : (p t m x o c s n : Bool)
-    → is-digit (cond p Plus (cond t Times (cond m Minus (cond x Bang (cond o Open (cond c Close (cond s Blank (cond n Blank Other)))))))) ≡ false
+    → is-digit (cond p (Joins Plus) (cond t (Joins Times) (cond m (Joins Minus) (cond x Bang (cond o Open (cond c Close (cond s Blank (cond n Blank Other)))))))) ≡ false
 no-digit-else true t m x o c s n = refl
 no-digit-else false true m x o c s n = refl
 no-digit-else false false true x o c s n = refl

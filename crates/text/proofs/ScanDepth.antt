@@ -17,7 +17,7 @@ use mir.Facts.{toZ-ofZ}
 use borrow.Author.Tests.{ltb-true, ltb-false, lt-ltb, le-ltb}
 use Rattle.terms.specs.Terms.{deepest}
 use Rattle.grammar.specs.declared.Sign.{Sign}
-use Rattle.grammar.specs.declared.Sign.the-variants.{Digit, Plus, Times, Minus, Bang, Open, Close, Blank, Other}
+use Rattle.grammar.specs.declared.Sign.the-variants.{Digit, Joins, Bang, Open, Close, Blank, Other}
 use Rattle.grammar.specs.Bytes.{sign-of}
 use Rattle.grammar.specs.twins.Places.{sign-at, one-if, is-open, is-close, opened, shut, too-deep-at}
 use Rattle.text.specs.code.Level.{level, level-with}
@@ -40,9 +40,7 @@ shut-more (x ∷ s) b = rw (shut-more s b) (omega arith)
 
 one-at-most : (k : Sign) → one-if (is-open k) + one-if (is-close k) ≤ 1
 one-at-most (Digit d) = omega arith
-one-at-most Plus = omega arith
-one-at-most Times = omega arith
-one-at-most Minus = omega arith
+one-at-most (Joins o) = omega arith
 one-at-most Bang = omega arith
 one-at-most Open = omega arith
 one-at-most Close = omega arith
@@ -69,9 +67,7 @@ kept a b =
 
 counts-with : (a b : ℕ) (k : Sign) → pos (a + one-if (is-open k)) -ℤ pos (b + one-if (is-close k)) ≡ level-with (pos a -ℤ pos b) k
 counts-with a b (Digit d) = kept a b
-counts-with a b Plus = kept a b
-counts-with a b Times = kept a b
-counts-with a b Minus = kept a b
+counts-with a b (Joins o) = kept a b
 counts-with a b Bang = kept a b
 counts-with a b Open =
     let q : b + 0 ≡ b = omega arith in

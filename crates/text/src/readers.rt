@@ -4,10 +4,14 @@ use crate::scan::digit_of;
 use formula::join_number;
 use formula::literal_number;
 use formula::put;
+use grammar::OF_PRODUCTS;
+use grammar::OF_SUMS;
+use grammar::Operator;
 use grammar::Sign;
 use grammar::is_close;
 use grammar::is_digit;
 use grammar::is_open;
+use grammar::level;
 use grammar::sign_of;
 use terms::Primitive;
 ghost use mathlib.Core.Path.{_≡_};
@@ -18,7 +22,7 @@ ghost use lib.ListN.{length, set};
 ghost use Rattle.formula.specs.code.Held.{join-number};
 ghost use Rattle.grammar.specs.Bytes.{is-digit};
 ghost use Rattle.grammar.specs.twins.Places.{sign-at, no-digit-before, bad-run};
-ghost use Rattle.text.specs.code.Readers.{is-blank, leads, behind, binding, most-slots, slots, Ready, Skipped, OperandAt, Numbered, FactorRead, ProductRead, SumRead, Closed, WholeRead};
+ghost use Rattle.text.specs.code.Readers.{is-blank, leads, behind, meets, binding, most-slots, slots, Ready, Skipped, OperandAt, Numbered, FactorRead, ProductRead, SumRead, Closed, WholeRead};
 
 // The next place in the text and the next free slot; or the place where no ending completes the beginning.
 pub enum Part {
@@ -43,9 +47,7 @@ fn is_blank(sign: Sign) -> bool
 {
     match sign {
         Sign::Digit(_) => false,
-        Sign::Plus => false,
-        Sign::Times => false,
-        Sign::Minus => false,
+        Sign::Joins(_) => false,
         Sign::Bang => false,
         Sign::Open => false,
         Sign::Close => false,
@@ -60,9 +62,7 @@ fn leads(sign: Sign) -> bool
 {
     match sign {
         Sign::Digit(_) => false,
-        Sign::Plus => false,
-        Sign::Times => false,
-        Sign::Minus => false,
+        Sign::Joins(_) => false,
         Sign::Bang => true,
         Sign::Open => false,
         Sign::Close => false,
@@ -77,9 +77,11 @@ fn behind(sign: Sign, sense: bool) -> bool
 {
     match sign {
         Sign::Digit(_) => sense,
-        Sign::Plus => sense,
-        Sign::Times => sense,
-        Sign::Minus => !sense,
+        Sign::Joins(operator) => match operator {
+            Operator::Plus => sense,
+            Operator::Times => sense,
+            Operator::Minus => !sense,
+        },
         Sign::Bang => !sense,
         Sign::Open => sense,
         Sign::Close => sense,
@@ -88,15 +90,32 @@ fn behind(sign: Sign, sense: bool) -> bool
     }
 }
 
-// How close an operator binds: 1 in a sum, 2 in a product.
+// Whether a sign joins its operands by an intersection of the positive form, where it is read in a sense.
+fn meets(sign: Sign, sense: bool) -> bool
+    ensures { λ r. ⌜ r ≡ meets sign sense ⌝ }
+{
+    match sign {
+        Sign::Digit(_) => sense,
+        Sign::Joins(operator) => match operator {
+            Operator::Plus => !sense,
+            Operator::Times => sense,
+            Operator::Minus => sense,
+        },
+        Sign::Bang => sense,
+        Sign::Open => sense,
+        Sign::Close => sense,
+        Sign::Blank => sense,
+        Sign::Other => sense,
+    }
+}
+
+// The level that a sign binds at; nought where it is no operator.
 fn binding(sign: Sign) -> u8
     ensures { λ r. ⌜ r ≡ binding sign ⌝ }
 {
     match sign {
         Sign::Digit(_) => 0,
-        Sign::Plus => 1,
-        Sign::Times => 2,
-        Sign::Minus => 2,
+        Sign::Joins(operator) => level(operator),
         Sign::Bang => 0,
         Sign::Open => 0,
         Sign::Close => 0,
@@ -243,7 +262,7 @@ fn factor(
     Part::Fault(i)
 }
 
-// A product: factors joined by `*` or `-`, from the left.
+// A product: factors joined by `*`, from the left.
 fn product(
     text: &[u8],
     at: usize,
@@ -261,10 +280,10 @@ fn product(
             let mut n = made;
             loop {
                 let sign = look(text, i);
-                if binding(sign) < 2 {
+                if binding(sign) < OF_PRODUCTS {
                     return Part::At(i, n);
                 }
-                match factor(text, i + 1, behind(sign, sense), kinds, spans, n) {
+                match factor(text, i + 1, sense, kinds, spans, n) {
                     Part::At(j, m) => {
                         join(kinds, spans, next, m, sense);
                         i = j;
@@ -278,7 +297,7 @@ fn product(
     }
 }
 
-// A sum: products joined by `+`, from the left.
+// A sum: products joined by `+` or `-`, from the left.
 fn sum(
     text: &[u8],
     at: usize,
@@ -296,12 +315,12 @@ fn sum(
             let mut n = made;
             loop {
                 let sign = look(text, i);
-                if binding(sign) < 1 {
+                if binding(sign) < OF_SUMS {
                     return Part::At(i, n);
                 }
                 match product(text, i + 1, behind(sign, sense), kinds, spans, n) {
                     Part::At(j, m) => {
-                        join(kinds, spans, next, m, !sense);
+                        join(kinds, spans, next, m, meets(sign, sense));
                         i = j;
                         n = m + 1;
                     }

@@ -40,9 +40,7 @@ pub fn digit_of(sign: Sign) -> u8
 {
     match sign {
         Sign::Digit(d) => d,
-        Sign::Plus => 0,
-        Sign::Times => 0,
-        Sign::Minus => 0,
+        Sign::Joins(_) => 0,
         Sign::Bang => 0,
         Sign::Open => 0,
         Sign::Close => 0,
@@ -253,9 +251,7 @@ fn on_wanted(sign: Sign, depth: usize) -> Step
 {
     match sign {
         Sign::Digit(_) => Step::Go(Mode::Inside, depth),
-        Sign::Plus => Step::Stuck,
-        Sign::Times => Step::Stuck,
-        Sign::Minus => Step::Stuck,
+        Sign::Joins(_) => Step::Stuck,
         Sign::Bang => Step::Go(Mode::Wanted, depth),
         Sign::Open => Step::Go(Mode::Wanted, depth + 1),
         Sign::Close => Step::Stuck,
@@ -280,9 +276,7 @@ fn on_complete(sign: Sign, depth: usize) -> Step
 {
     match sign {
         Sign::Digit(_) => Step::Stuck,
-        Sign::Plus => Step::Go(Mode::Wanted, depth),
-        Sign::Times => Step::Go(Mode::Wanted, depth),
-        Sign::Minus => Step::Go(Mode::Wanted, depth),
+        Sign::Joins(_) => Step::Go(Mode::Wanted, depth),
         Sign::Bang => Step::Stuck,
         Sign::Open => Step::Stuck,
         Sign::Close => on_close(depth),

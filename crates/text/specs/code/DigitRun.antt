@@ -11,15 +11,13 @@ use lib.Dec.{leb}
 use lib.ListN.{length}
 use Rattle.terms.specs.Terms.{greatest-primitive}
 use Rattle.grammar.specs.declared.Sign.{Sign}
-use Rattle.grammar.specs.declared.Sign.the-variants.{Digit, Plus, Times, Minus, Bang, Open, Close, Blank, Other}
+use Rattle.grammar.specs.declared.Sign.the-variants.{Digit, Joins, Bang, Open, Close, Blank, Other}
 use Rattle.grammar.specs.Bytes.{shifted}
 use Rattle.grammar.specs.twins.Places.{run-at, too-large}
 
 abbrev pub digit-of : Sign → ℕ
 digit-of (Digit d) = d
-digit-of Plus = 0
-digit-of Times = 0
-digit-of Minus = 0
+digit-of (Joins o) = 0
 digit-of Bang = 0
 digit-of Open = 0
 digit-of Close = 0

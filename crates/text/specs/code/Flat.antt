@@ -7,7 +7,7 @@ use Prim.Native.Nat.{ℕ, zero, suc}
 use mathlib.Core.Bool.{cond}
 use mathlib.Core.List.{List, [], _∷_}
 use Rattle.grammar.specs.declared.Sign.{Sign}
-use Rattle.grammar.specs.declared.Sign.the-variants.{Digit, Plus, Times, Minus, Bang, Open, Close, Blank, Other}
+use Rattle.grammar.specs.declared.Sign.the-variants.{Digit, Joins, Bang, Open, Close, Blank, Other}
 use Rattle.text.specs.declared.scan.Mode.{Mode}
 use Rattle.text.specs.declared.scan.Mode.the-variants.{Wanted, Inside, Complete}
 use Rattle.text.specs.declared.scan.Step.{Step}
@@ -24,9 +24,7 @@ verdict (stops at) = Fault at
 
 abbrev pub flat-wanted : Sign → ℕ → Step
 flat-wanted (Digit d) depth = Go Inside depth
-flat-wanted Plus depth = Stuck
-flat-wanted Times depth = Stuck
-flat-wanted Minus depth = Stuck
+flat-wanted (Joins o) depth = Stuck
 flat-wanted Bang depth = Go Wanted depth
 flat-wanted Open depth = Go Wanted (suc depth)
 flat-wanted Close depth = Stuck
@@ -39,9 +37,7 @@ flat-close (suc depth) = Go Complete depth
 
 abbrev pub flat-complete : Sign → ℕ → Step
 flat-complete (Digit d) depth = Stuck
-flat-complete Plus depth = Go Wanted depth
-flat-complete Times depth = Go Wanted depth
-flat-complete Minus depth = Go Wanted depth
+flat-complete (Joins o) depth = Go Wanted depth
 flat-complete Bang depth = Stuck
 flat-complete Open depth = Stuck
 flat-complete Close depth = flat-close depth

@@ -7,28 +7,28 @@
 use Prim.Native.Nat.{ℕ, zero, suc, _+_, _-_, _*_, _≤_, _<_}
 use mathlib.Core.Path.{_≡_}
 use mathlib.Core.Bool.{Bool, true, false, not}
-use mathlib.Core.Option.{Option, none}
+use mathlib.Core.Option.{none}
 use mathlib.Core.List.{List}
 use lib.ListN.{length, getD, drop}
 use Rattle.terms.specs.Terms.{most-literals, greatest-primitive}
 use Rattle.formula.specs.Formula.{Expr}
 use Rattle.formula.specs.Typed.{Typed, number, numbers, positive, negative}
 use Rattle.formula.specs.code.Held.{Holds}
+use Rattle.grammar.specs.declared.Operator.{Operator}
+use Rattle.grammar.specs.declared.Operator.the-variants.{Plus, Times, Minus}
 use Rattle.grammar.specs.declared.Sign.{Sign}
-use Rattle.grammar.specs.declared.Sign.the-variants.{Digit, Plus, Times, Minus, Bang, Open, Close, Blank, Other}
+use Rattle.grammar.specs.declared.Sign.the-variants.{Digit, Joins, Bang, Open, Close, Blank, Other}
 use Rattle.text.specs.declared.readers.Part.{Part}
 use Rattle.text.specs.declared.readers.Part.the-variants.{At, Fault}
 use Rattle.text.specs.declared.readers.Operand.{Operand}
 use Rattle.text.specs.declared.readers.Numeral.{Numeral}
 use Rattle.grammar.specs.twins.Places.{sign-at, no-digit-before, is-close, runs-before, bad-run}
-use Rattle.grammar.specs.twins.Reader.{alone, Waiting, nothing, State, wanted, complete, added, product-with, Outcome, means, stops, read-from}
+use Rattle.grammar.specs.twins.Reader.{of-sums, of-products, level, Pending, alone, joined, Waiting, nothing, State, wanted, complete, product-with, Outcome, means, stops, read-from}
 use Rattle.grammar.specs.twins.Reader as reader
 
 abbrev pub is-blank : Sign → Bool
 is-blank (Digit d) = false
-is-blank Plus = false
-is-blank Times = false
-is-blank Minus = false
+is-blank (Joins o) = false
 is-blank Bang = false
 is-blank Open = false
 is-blank Close = false
@@ -38,45 +38,65 @@ is-blank Other = false
 -- what may stand before an operand and is passed over: blanks and complements
 abbrev pub leads : Sign → Bool
 leads (Digit d) = false
-leads Plus = false
-leads Times = false
-leads Minus = false
+leads (Joins o) = false
 leads Bang = true
 leads Open = false
 leads Close = false
 leads Blank = true
 leads Other = false
 
+-- the sense of an operator's right operand: `-` complements it
+abbrev pub right-sense : Operator → Bool → Bool
+right-sense Plus sense = sense
+right-sense Times sense = sense
+right-sense Minus sense = not sense
+
 -- the sense of an operand behind a sign: `!` and `-` complement it
 abbrev pub behind : Sign → Bool → Bool
 behind (Digit d) sense = sense
-behind Plus sense = sense
-behind Times sense = sense
-behind Minus sense = not sense
+behind (Joins o) sense = right-sense o sense
 behind Bang sense = not sense
 behind Open sense = sense
 behind Close sense = sense
 behind Blank sense = sense
 behind Other sense = sense
 
--- how close an operator binds: `+` at the level of sums, `*` and `-` at that of products
+-- whether an operator, read in a sense, is an intersection of the positive form
+abbrev pub intersecting : Operator → Bool → Bool
+intersecting Plus sense = not sense
+intersecting Times sense = sense
+intersecting Minus sense = sense
+
+-- the same by the operator's sign
+abbrev pub meets : Sign → Bool → Bool
+meets (Digit d) sense = sense
+meets (Joins o) sense = intersecting o sense
+meets Bang sense = sense
+meets Open sense = sense
+meets Close sense = sense
+meets Blank sense = sense
+meets Other sense = sense
+
+-- the level that a sign binds at; nought where it is no operator
 abbrev pub binding : Sign → ℕ
 binding (Digit d) = 0
-binding Plus = 1
-binding Times = 2
-binding Minus = 2
+binding (Joins o) = level o
 binding Bang = 0
 binding Open = 0
 binding Close = 0
 binding Blank = 0
 binding Other = 0
 
+-- closer than any operator binds
+abbrev pub of-factors : ℕ
+of-factors = 3
+
 -- reading goes on at a place of the text
 abbrev pub reads-on : List ℕ → State → List Waiting → ℕ → Outcome
 reads-on text st outer at = read-from st outer at (drop at text)
 
--- a product is wanted behind a sum and its `+`, if there is one
-abbrev pub after : Option Typed → Waiting
+-- a product is wanted behind what waits in the sum
+abbrev pub after : Pending → Waiting
 after sum = record { sum = sum; product = alone; complements = 0 }
 
 -- so many `!` more behind what waits
@@ -130,7 +150,7 @@ pub record Over (text : List ℕ) (at i : ℕ) : Type 0 where
   pub from : at ≤ i
   pub within : i ≤ length text
   pub runs : runs-before text i ≡ runs-before text at
-  pub reads : (sum : Option Typed) (e : Typed) (outer : List Waiting) → reads-on text (complete sum e) outer at ≡ reads-on text (complete sum e) outer i
+  pub reads : (sum : Pending) (e : Typed) (outer : List Waiting) → reads-on text (complete sum e) outer at ≡ reads-on text (complete sum e) outer i
 
 -- the first place from `at` on that has no blank
 pub record Skipped (text : List ℕ) (at r : ℕ) : Type 0 where
@@ -168,13 +188,13 @@ FactorMeans text at next e =
 
 -- a product that means e, behind any sum
 abbrev pub ProductMeans : List ℕ → ℕ → ℕ → Typed → Type 0
-ProductMeans text at next e = (sum : Option Typed) (outer : List Waiting) → reads-on text (wanted (after sum)) outer at ≡ reads-on text (complete sum e) outer next
+ProductMeans text at next e = (sum : Pending) (outer : List Waiting) → reads-on text (wanted (after sum)) outer at ≡ reads-on text (complete sum e) outer next
 
 -- a sum that means e: its last product, behind what stands before that
 pub record SumMeans (text : List ℕ) (at next : ℕ) (e : Typed) : Type 0 where
-  pub sum : Option Typed
+  pub sum : Pending
   pub product : Typed
-  pub is : added sum product ≡ e
+  pub is : joined sum product ≡ e
   pub reads : (outer : List Waiting) → reads-on text (wanted nothing) outer at ≡ reads-on text (complete sum product) outer next
 
 -- or the machine stops at p
@@ -182,7 +202,7 @@ abbrev pub FactorStops : List ℕ → ℕ → ℕ → Type 0
 FactorStops text at p = (w : Waiting) (outer : List Waiting) → reads-on text (wanted w) outer at ≡ stops p
 
 abbrev pub ProductStops : List ℕ → ℕ → ℕ → Type 0
-ProductStops text at p = (sum : Option Typed) (outer : List Waiting) → reads-on text (wanted (after sum)) outer at ≡ stops p
+ProductStops text at p = (sum : Pending) (outer : List Waiting) → reads-on text (wanted (after sum)) outer at ≡ stops p
 
 abbrev pub SumStops : List ℕ → ℕ → ℕ → Type 0
 SumStops text at p = (outer : List Waiting) → reads-on text (wanted nothing) outer at ≡ stops p
@@ -208,15 +228,15 @@ pub data PartRead (Means : List ℕ → ℕ → ℕ → Typed → Type 0) (Stops
   read : {next n : ℕ} → Built Means level text at sense start a b next n → PartRead Means Stops level text at sense start a b (At next n)
   fault : {p : ℕ} → Stops text at p → PartRead Means Stops level text at sense start a b (Fault p)
 
--- a factor ends before any operator, a product before `+`, and a sum before none
+-- a factor ends before any operator, a product before one of sums, and a sum before none
 abbrev pub FactorRead : List ℕ → ℕ → Bool → ℕ → Slots → Slots → Part → Type 0
-FactorRead = PartRead FactorMeans FactorStops 3
+FactorRead = PartRead FactorMeans FactorStops of-factors
 
 abbrev pub ProductRead : List ℕ → ℕ → Bool → ℕ → Slots → Slots → Part → Type 0
-ProductRead = PartRead ProductMeans ProductStops 2
+ProductRead = PartRead ProductMeans ProductStops of-products
 
 abbrev pub SumRead : List ℕ → ℕ → Bool → ℕ → Slots → Slots → Part → Type 0
-SumRead = PartRead SumMeans SumStops 1
+SumRead = PartRead SumMeans SumStops of-sums
 
 -- the `)` behind what was read in parentheses, and the blanks behind it; or where it is missing
 pub data Closed (text : List ℕ) : Part → Part → Type 0 where

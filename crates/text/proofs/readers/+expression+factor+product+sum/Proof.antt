@@ -1,6 +1,5 @@
 -- The readers are right because each step that they take the machine takes too: behind an operand they go on where it goes on, and where it stops
 -- they stop; what is left of the text falls from call to call, and with it the rank of the reader. Assumes nothing.
-use mathlib.Core.Option.{none}
 use borrow.Author.Needs.{needs}
 use native.Mathlib.Omega.{arith}
 use mathlib.Core.Path.{ap, _∙_}
@@ -10,7 +9,8 @@ use denote.Ref.{now}
 use Rattle.grammar.specs.declared.Sign.{Sign}
 use Rattle.grammar.specs.Bytes.{is-digit}
 use Rattle.grammar.specs.twins.Places.{is-open}
-use Rattle.text.specs.code.Readers.{behind, after, slots, ProductMeans, SumMeans, Built, PartRead, read}
+use Rattle.grammar.specs.twins.Reader.{of-sums, of-products, alone}
+use Rattle.text.specs.code.Readers.{of-factors, behind, meets, after, slots, ProductMeans, SumMeans, Built, PartRead, read}
 use Rattle.text.proofs.ReadSigns.{tested, binds-below, binds-from}
 use Rattle.text.proofs.ReadFactors.{prefixed, nothing-read, open-stands, ready-literal, ready-inner, inner-read}
 use Rattle.text.proofs.ReadChains.{got, missed, binds-stands, ready-next, room, chain-end, product-first, product-again, product-late, sum-first, sum-again, sum-late}
@@ -36,6 +36,7 @@ use Rattle.grammar.proofs.is_open.Reads as is-open-reads
 use Rattle.text.proofs.readers.join.Reads as join-reads
 use Rattle.text.proofs.readers.literal.Reads as literal-reads
 use Rattle.text.proofs.readers.look.Reads as look-reads
+use Rattle.text.proofs.readers.meets.Reads as meets-reads
 use Rattle.text.proofs.readers.operand_at.Reads as operand-at-reads
 use Rattle.text.proofs.readers.+expression+factor+product+sum.{statement}
 use Rattle.text.proofs.readers.+expression+factor+product+sum.Tie.{close}
@@ -84,11 +85,11 @@ factor-claims t = (operand-at-reads.Asked, operand-at-reads.Learnt, look-reads.A
 
 -- what each call of `product` asks and gives
 abbrev product-claims : ℕ → product-lts.Claims
-product-claims t = (factor-below t, factor.Post, look-reads.Asked, look-reads.Learnt, binding-reads.Asked, binding-reads.Learnt, behind-reads.Asked, behind-reads.Learnt, join-reads.Asked, join-reads.Learnt)
+product-claims t = (factor-below t, factor.Post, look-reads.Asked, look-reads.Learnt, binding-reads.Asked, binding-reads.Learnt, join-reads.Asked, join-reads.Learnt)
 
 -- what each call of `sum` asks and gives
 abbrev sum-claims : ℕ → sum-lts.Claims
-sum-claims t = (product-below t, product.Post, look-reads.Asked, look-reads.Learnt, binding-reads.Asked, binding-reads.Learnt, behind-reads.Asked, behind-reads.Learnt, join-reads.Asked, join-reads.Learnt)
+sum-claims t = (product-below t, product.Post, look-reads.Asked, look-reads.Learnt, binding-reads.Asked, binding-reads.Learnt, behind-reads.Asked, behind-reads.Learnt, meets-reads.Asked, meets-reads.Learnt, join-reads.Asked, join-reads.Learnt)
 
 expression-sum-requires :
     (t : ℕ) →
@@ -204,7 +205,7 @@ factor-returns-3 t c =
 
 abbrev product-Inv-loop : product-lts.InvT-loop
 product-Inv-loop text at sense kinds₀ spans₀ next first made i₀ n₀ kinds spans i n =
-    Built ProductMeans 3 text at sense next (slots kinds₀ spans₀) (slots kinds spans) i n
+    Built ProductMeans of-factors text at sense next (slots kinds₀ spans₀) (slots kinds spans) i n
 
 abbrev product-μ-loop : product-lts.MeasureT-loop
 product-μ-loop text at sense kinds₀ spans₀ next first made i₀ n₀ kinds spans i n = length text - i
@@ -248,23 +249,20 @@ product-add-factor t c =
     let at-look = at-binding .before in
     let at-loop = at-look .before in
     let at-entry = at-loop .before .before .before .before .before .before .before .before .before .before .before .before .before .before in
-    let h = binds-from {l = 2} (at-look .look .ensures) (at-binding .binding .ensures) (c .if1 .left) in
+    let h = binds-from {l = of-products} (at-look .look .ensures) (at-binding .binding .ensures) (c .if1 .left) in
     let l = binds-stands (now (at-entry .args .text)) (at-loop .loop .i) (omega arith) in
     omega arith
 
-product-behind-requires : (t : ℕ) → product-lts.Need-behind-requires (product-claims t) (product-at t) product.Post product-Inv-loop product-μ-loop
-product-behind-requires t c κs = search needs
-
 product-factor-requires-2 : (t : ℕ) → product-lts.Need-factor-requires-2 (product-claims t) (product-at t) product.Post product-Inv-loop product-μ-loop
 product-factor-requires-2 t c κs =
-    let at-if1 = c .before .before .before in
+    let at-if1 = c .before .before in
     let at-binding = at-if1 .before in
     let at-look = at-binding .before in
     let at-loop = at-look .before in
     let at-first = at-loop .before .before in
     let at-factor = at-first .before .before .before .before .before .before in
     let at-entry = at-factor .before .before .before .before .before .before in
-    let h = binds-from {l = 2} (at-look .look .ensures) (at-binding .binding .ensures) (at-if1 .if1 .left) in
+    let h = binds-from {l = of-products} (at-look .look .ensures) (at-binding .binding .ensures) (at-if1 .if1 .left) in
     let l = binds-stands (now (at-entry .args .text)) (at-loop .loop .i) (omega arith) in
     let k = at-loop .loop .inv in
     let f = got (at-first .first .given .1) (at-factor .factor .ensures) .kept in
@@ -277,14 +275,14 @@ product-join-requires : (t : ℕ) → product-lts.Need-join-requires (product-cl
 product-join-requires t c κs =
     let at-j = c .before .before .before in
     let at-factor2 = at-j .before .before .before .before .before .before in
-    let at-if1 = at-factor2 .before .before .before .before in
+    let at-if1 = at-factor2 .before .before .before in
     let at-binding = at-if1 .before in
     let at-look = at-binding .before in
     let at-loop = at-look .before in
     let at-first = at-loop .before .before in
     let at-factor = at-first .before .before .before .before .before .before in
     let at-entry = at-factor .before .before .before .before .before .before in
-    let h = binds-from {l = 2} (at-look .look .ensures) (at-binding .binding .ensures) (at-if1 .if1 .left) in
+    let h = binds-from {l = of-products} (at-look .look .ensures) (at-binding .binding .ensures) (at-if1 .if1 .left) in
     let f = got (at-first .first .given .1) (at-factor .factor .ensures) .kept in
     let o = room (at-entry .pre .1) f (at-loop .loop .inv) (omega arith) (got (at-j .j .given .1) (at-factor2 .factor2 .ensures)) in
     (omega (arith, o .left, o .right), (o .below, (o .kinds-room, o .spans-room)))
@@ -293,14 +291,14 @@ product-add-n : (t : ℕ) → product-lts.Need-add-n (product-claims t) (product
 product-add-n t c =
     let at-j = c .before .before .before .before .before .before .before .before in
     let at-factor2 = at-j .before .before .before .before .before .before in
-    let at-if1 = at-factor2 .before .before .before .before in
+    let at-if1 = at-factor2 .before .before .before in
     let at-binding = at-if1 .before in
     let at-look = at-binding .before in
     let at-loop = at-look .before in
     let at-first = at-loop .before .before in
     let at-factor = at-first .before .before .before .before .before .before in
     let at-entry = at-factor .before .before .before .before .before .before in
-    let h = binds-from {l = 2} (at-look .look .ensures) (at-binding .binding .ensures) (at-if1 .if1 .left) in
+    let h = binds-from {l = of-products} (at-look .look .ensures) (at-binding .binding .ensures) (at-if1 .if1 .left) in
     let f = got (at-first .first .given .1) (at-factor .factor .ensures) .kept in
     let o = room (at-entry .pre .1) f (at-loop .loop .inv) (omega arith) (got (at-j .j .given .1) (at-factor2 .factor2 .ensures)) in
     omega (arith, o .below)
@@ -317,18 +315,17 @@ product-loop-again t c =
     let at-join = c .before .before .before .before in
     let at-j = at-join .before .before .before .before in
     let at-factor2 = at-j .before .before .before .before .before .before in
-    let at-behind = at-factor2 .before .before .before in
-    let at-if1 = at-behind .before in
+    let at-if1 = at-factor2 .before .before .before in
     let at-binding = at-if1 .before in
     let at-look = at-binding .before in
     let at-loop = at-look .before in
     let at-first = at-loop .before .before in
     let at-factor = at-first .before .before .before .before .before .before in
     let at-entry = at-factor .before .before .before .before .before .before in
-    let h = binds-from {l = 2} (at-look .look .ensures) (at-binding .binding .ensures) (at-if1 .if1 .left) in
+    let h = binds-from {l = of-products} (at-look .look .ensures) (at-binding .binding .ensures) (at-if1 .if1 .left) in
     let f = got (at-first .first .given .1) (at-factor .factor .ensures) .kept in
     let g = got (at-j .j .given .1) (at-factor2 .factor2 .ensures) in
-    product-again (at-entry .pre .1) f (at-loop .loop .inv) h (at-behind .behind .ensures ∙ ap (λ (k : Sign). behind k (at-entry .args .sense)) (at-look .look .ensures)) g (at-join .join .ensures .0) (at-join .join .ensures .1)
+    product-again (at-entry .pre .1) f (at-loop .loop .inv) h g (at-join .join .ensures .0) (at-join .join .ensures .1)
 
 product-enum-known-p : (t : ℕ) → product-lts.Need-enum-known-p (product-claims t) (product-at t) product.Post product-Inv-loop product-μ-loop
 product-enum-known-p t c = search needs
@@ -343,14 +340,14 @@ product-returns-2 : (t : ℕ) → product-lts.Need-returns-2 (product-claims t) 
 product-returns-2 t c =
     let at-p = c .before in
     let at-factor2 = at-p .before .before .before .before .before .before in
-    let at-if1 = at-factor2 .before .before .before .before in
+    let at-if1 = at-factor2 .before .before .before in
     let at-binding = at-if1 .before in
     let at-look = at-binding .before in
     let at-loop = at-look .before in
     let at-first = at-loop .before .before in
     let at-factor = at-first .before .before .before .before .before .before in
     let at-entry = at-factor .before .before .before .before .before .before in
-    let h = binds-from {l = 2} (at-look .look .ensures) (at-binding .binding .ensures) (at-if1 .if1 .left) in
+    let h = binds-from {l = of-products} (at-look .look .ensures) (at-binding .binding .ensures) (at-if1 .if1 .left) in
     let f = got (at-first .first .given .1) (at-factor .factor .ensures) .kept in
     PartRead.fault (product-late (at-entry .pre .1) f (at-loop .loop .inv) h (missed (at-p .p .given .1) (at-factor2 .factor2 .ensures)))
 
@@ -372,7 +369,7 @@ product-returns-3 t c =
 
 abbrev sum-Inv-loop : sum-lts.InvT-loop
 sum-Inv-loop text at sense kinds₀ spans₀ next first made i₀ n₀ kinds spans i n =
-    Built SumMeans 2 text at sense next (slots kinds₀ spans₀) (slots kinds spans) i n
+    Built SumMeans of-products text at sense next (slots kinds₀ spans₀) (slots kinds spans) i n
 
 abbrev sum-μ-loop : sum-lts.MeasureT-loop
 sum-μ-loop text at sense kinds₀ spans₀ next first made i₀ n₀ kinds spans i n = length text - i
@@ -416,7 +413,7 @@ sum-add-product t c =
     let at-look = at-binding .before in
     let at-loop = at-look .before in
     let at-entry = at-loop .before .before .before .before .before .before .before .before .before .before .before .before .before .before in
-    let h = binds-from {l = 1} (at-look .look .ensures) (at-binding .binding .ensures) (c .if1 .left) in
+    let h = binds-from {l = of-sums} (at-look .look .ensures) (at-binding .binding .ensures) (c .if1 .left) in
     let l = binds-stands (now (at-entry .args .text)) (at-loop .loop .i) (omega arith) in
     omega arith
 
@@ -432,7 +429,7 @@ sum-product-requires-2 t c κs =
     let at-first = at-loop .before .before in
     let at-product = at-first .before .before .before .before .before .before in
     let at-entry = at-product .before .before .before .before .before .before in
-    let h = binds-from {l = 1} (at-look .look .ensures) (at-binding .binding .ensures) (at-if1 .if1 .left) in
+    let h = binds-from {l = of-sums} (at-look .look .ensures) (at-binding .binding .ensures) (at-if1 .if1 .left) in
     let l = binds-stands (now (at-entry .args .text)) (at-loop .loop .i) h in
     let k = at-loop .loop .inv in
     let f = got (at-first .first .given .1) (at-product .product .ensures) .kept in
@@ -441,9 +438,12 @@ sum-product-requires-2 t c κs =
 sum-enum-known-j : (t : ℕ) → sum-lts.Need-enum-known-j (sum-claims t) (sum-at t) sum.Post sum-Inv-loop sum-μ-loop
 sum-enum-known-j t c = search needs
 
+sum-meets-requires : (t : ℕ) → sum-lts.Need-meets-requires (sum-claims t) (sum-at t) sum.Post sum-Inv-loop sum-μ-loop
+sum-meets-requires t c κs = search needs
+
 sum-join-requires : (t : ℕ) → sum-lts.Need-join-requires (sum-claims t) (sum-at t) sum.Post sum-Inv-loop sum-μ-loop
 sum-join-requires t c κs =
-    let at-j = c .before .before .before in
+    let at-j = c .before .before .before .before in
     let at-product2 = at-j .before .before .before .before .before .before in
     let at-if1 = at-product2 .before .before .before .before in
     let at-binding = at-if1 .before in
@@ -452,14 +452,14 @@ sum-join-requires t c κs =
     let at-first = at-loop .before .before in
     let at-product = at-first .before .before .before .before .before .before in
     let at-entry = at-product .before .before .before .before .before .before in
-    let h = binds-from {l = 1} (at-look .look .ensures) (at-binding .binding .ensures) (at-if1 .if1 .left) in
+    let h = binds-from {l = of-sums} (at-look .look .ensures) (at-binding .binding .ensures) (at-if1 .if1 .left) in
     let f = got (at-first .first .given .1) (at-product .product .ensures) .kept in
     let o = room (at-entry .pre .1) f (at-loop .loop .inv) h (got (at-j .j .given .1) (at-product2 .product2 .ensures)) in
     (omega (arith, o .left, o .right), (o .below, (o .kinds-room, o .spans-room)))
 
 sum-add-n : (t : ℕ) → sum-lts.Need-add-n (sum-claims t) (sum-at t) sum.Post sum-Inv-loop sum-μ-loop
 sum-add-n t c =
-    let at-j = c .before .before .before .before .before .before .before .before in
+    let at-j = c .before .before .before .before .before .before .before .before .before in
     let at-product2 = at-j .before .before .before .before .before .before in
     let at-if1 = at-product2 .before .before .before .before in
     let at-binding = at-if1 .before in
@@ -468,14 +468,14 @@ sum-add-n t c =
     let at-first = at-loop .before .before in
     let at-product = at-first .before .before .before .before .before .before in
     let at-entry = at-product .before .before .before .before .before .before in
-    let h = binds-from {l = 1} (at-look .look .ensures) (at-binding .binding .ensures) (at-if1 .if1 .left) in
+    let h = binds-from {l = of-sums} (at-look .look .ensures) (at-binding .binding .ensures) (at-if1 .if1 .left) in
     let f = got (at-first .first .given .1) (at-product .product .ensures) .kept in
     let o = room (at-entry .pre .1) f (at-loop .loop .inv) h (got (at-j .j .given .1) (at-product2 .product2 .ensures)) in
     omega (arith, o .below)
 
 sum-loop-less : (t : ℕ) → sum-lts.Need-loop-less (sum-claims t) (sum-at t) sum.Post sum-Inv-loop sum-μ-loop
 sum-loop-less t c =
-    let at-j = c .before .before .before .before .before .before .before .before in
+    let at-j = c .before .before .before .before .before .before .before .before .before in
     let at-product2 = at-j .before .before .before .before .before .before in
     let g = got (at-j .j .given .1) (at-product2 .product2 .ensures) in
     omega (arith, g .past, g .within)
@@ -483,7 +483,8 @@ sum-loop-less t c =
 sum-loop-again : (t : ℕ) → sum-lts.Need-loop-again (sum-claims t) (sum-at t) sum.Post sum-Inv-loop sum-μ-loop
 sum-loop-again t c =
     let at-join = c .before .before .before .before in
-    let at-j = at-join .before .before .before .before in
+    let at-meets = at-join .before in
+    let at-j = at-meets .before .before .before .before in
     let at-product2 = at-j .before .before .before .before .before .before in
     let at-behind = at-product2 .before .before .before in
     let at-if1 = at-behind .before in
@@ -493,10 +494,10 @@ sum-loop-again t c =
     let at-first = at-loop .before .before in
     let at-product = at-first .before .before .before .before .before .before in
     let at-entry = at-product .before .before .before .before .before .before in
-    let h = binds-from {l = 1} (at-look .look .ensures) (at-binding .binding .ensures) (at-if1 .if1 .left) in
+    let h = binds-from {l = of-sums} (at-look .look .ensures) (at-binding .binding .ensures) (at-if1 .if1 .left) in
     let f = got (at-first .first .given .1) (at-product .product .ensures) .kept in
     let g = got (at-j .j .given .1) (at-product2 .product2 .ensures) in
-    sum-again (at-entry .pre .1) f (at-loop .loop .inv) h (at-behind .behind .ensures ∙ ap (λ (k : Sign). behind k (at-entry .args .sense)) (at-look .look .ensures)) g (at-join .join .ensures .0) (at-join .join .ensures .1)
+    sum-again (at-entry .pre .1) f (at-loop .loop .inv) h (at-behind .behind .ensures ∙ ap (λ (k : Sign). behind k (at-entry .args .sense)) (at-look .look .ensures)) (at-meets .meets .ensures ∙ ap (λ (k : Sign). meets k (at-entry .args .sense)) (at-look .look .ensures)) g (at-join .join .ensures .0) (at-join .join .ensures .1)
 
 sum-enum-known-p : (t : ℕ) → sum-lts.Need-enum-known-p (sum-claims t) (sum-at t) sum.Post sum-Inv-loop sum-μ-loop
 sum-enum-known-p t c = search needs
@@ -518,7 +519,7 @@ sum-returns-2 t c =
     let at-first = at-loop .before .before in
     let at-product = at-first .before .before .before .before .before .before in
     let at-entry = at-product .before .before .before .before .before .before in
-    let h = binds-from {l = 1} (at-look .look .ensures) (at-binding .binding .ensures) (at-if1 .if1 .left) in
+    let h = binds-from {l = of-sums} (at-look .look .ensures) (at-binding .binding .ensures) (at-if1 .if1 .left) in
     let f = got (at-first .first .given .1) (at-product .product .ensures) .kept in
     PartRead.fault (sum-late (at-entry .pre .1) f (at-loop .loop .inv) h (missed (at-p .p .given .1) (at-product2 .product2 .ensures)))
 
@@ -536,7 +537,7 @@ sum-returns-3 t c =
     let at-p2 = c .before in
     let at-product = at-p2 .before .before .before .before .before .before in
     let g = missed (at-p2 .p2 .given .1) (at-product .product .ensures) in
-    PartRead.fault (λ outer. g none outer)
+    PartRead.fault (λ outer. g alone outer)
 
 pub +expression+factor+product+sum-spec : {M : Type 1} → statement M
 +expression+factor+product+sum-spec =
@@ -593,8 +594,6 @@ pub +expression+factor+product+sum-spec : {M : Type 1} → statement M
       look-reads.Learnt,
       binding-reads.Asked,
       binding-reads.Learnt,
-      behind-reads.Asked,
-      behind-reads.Learnt,
       join-reads.Asked,
       join-reads.Learnt,
     )
@@ -611,7 +610,6 @@ pub +expression+factor+product+sum-spec : {M : Type 1} → statement M
     (product-same-length-2 t)
     (product-returns t)
     (product-add-factor t)
-    (product-behind-requires t)
     (product-factor-requires-2 t)
     (product-enum-known-j t)
     (product-join-requires t)
@@ -635,6 +633,8 @@ pub +expression+factor+product+sum-spec : {M : Type 1} → statement M
       binding-reads.Learnt,
       behind-reads.Asked,
       behind-reads.Learnt,
+      meets-reads.Asked,
+      meets-reads.Learnt,
       join-reads.Asked,
       join-reads.Learnt,
     )
@@ -654,6 +654,7 @@ pub +expression+factor+product+sum-spec : {M : Type 1} → statement M
     (sum-behind-requires t)
     (sum-product-requires-2 t)
     (sum-enum-known-j t)
+    (sum-meets-requires t)
     (sum-join-requires t)
     (sum-add-n t)
     (sum-loop-less t)
