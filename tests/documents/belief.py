@@ -12,7 +12,7 @@ from antt import read, specs_file, words
 PROMISES = 'crates/promises/proofs'
 HEAD = 'crates/promises/src/lib.rt'
 # what tries the definitions and promises nothing more
-TRIALS = {'Examples', 'Slips', 'Controls', 'Neighbours', 'WrongPrograms'}
+TRIALS = {'Examples', 'Binding', 'Slips', 'Controls', 'Neighbours', 'WrongPrograms'}
 DEMANDS = 'Demands'
 
 

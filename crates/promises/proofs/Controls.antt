@@ -13,6 +13,7 @@ use Rattle.formula.specs.Formula.{Literal, Kind, Expr, literal, join, literals}
 use Rattle.formula.specs.Typed.{Typed, number, numbers, positive}
 use Rattle.formula.specs.Marks.{placed}
 use Rattle.formula.proofs.Small.{SmallPrimitives, one, both}
+use Rattle.grammar.specs.twins.Reader.{level, read}
 use Rattle.turning.specs.Tags.{priced, price}
 use Rattle.turning.specs.Turning.{exchanges, marks, turned}
 use Rattle.turning.proofs.Turned.{turned-literal, turned-join}
@@ -21,14 +22,18 @@ use Rattle.weaving.specs.Labels.{Store, step, stored, weave}
 use Rattle.weaving.proofs.Places.{length-in-order}
 use Rattle.table.specs.Layout.{gate-of}
 use Rattle.compiler.specs.Compiled.{table-of}
+use Rattle.compiler.specs.twins.Compiling.{compiled}
 use Rattle.compiler.proofs.Bytes.{no-record}
 use Rattle.run.specs.Run.{Run}
 use Rattle.run.specs.Whole.{fed-all, whole-run}
 use Rattle.run.specs.twins.Answers.{started, fed, answered}
 use Rattle.promises.specs.Words.{arrangement, typed-numbers, occurrence-at, Asks}
+use Rattle.promises.specs.examples.Binding.{read-by, compiled-by}
 use Rattle.promises.specs.examples.Counting.{fed-by, run-by}
 use Rattle.promises.specs.examples.Slips.{turned-by, as-priced, stored-by, every, kept-by, renamed, renamed-table}
 use Rattle.promises.proofs.laws.Computing.{computing}
+use Rattle.promises.proofs.laws.Levels.{read-by-level}
+use Rattle.promises.proofs.laws.Binding.{compiled-read}
 use Rattle.promises.proofs.laws.Accepted.{literals-arrangement}
 use Rattle.promises.proofs.laws.Asked.{literal-at, literal-primitive, gate-primitive}
 
@@ -56,6 +61,12 @@ pub renamed-as-named : (e : Expr) → renamed (λ p. p) e ≡ e
 unfolding renamed
 renamed-as-named (literal x) = refl
 renamed-as-named (join k l r) = ap₂ (join k) (renamed-as-named l) (renamed-as-named r)
+
+pub read-as-levelled : (text : List ℕ) → read-by level text ≡ read text
+read-as-levelled = read-by-level
+
+pub compiled-as-levelled : (text : List ℕ) (room : ℕ) → compiled-by level text room ≡ compiled text room
+compiled-as-levelled text room = compiled-read level text room (read-by-level text)
 
 fed-by-fed : (r : Run) (table : List ℕ) (us : List Bool) → fed-by fed r table us ≡ fed-all r table us
 unfolding fed-by fed-all

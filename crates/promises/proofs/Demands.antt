@@ -4,19 +4,20 @@ use Prim.Native.Nat.{ℕ, suc, _+_, _-_, _*_, _^_, _≤_, _<_}
 use mathlib.Core.Path.{_≡_, refl}
 use mathlib.Core.Logic.{_↔_, _≢_}
 use mathlib.Core.Bool.{Bool}
-use mathlib.Core.List.{List, [], _∷_, map}
+use mathlib.Core.List.{List, [], _∷_, _++_, map}
 use lib.ListN.{length, getD}
 use Rattle.terms.specs.Terms.{Label, first-label}
 use Rattle.terms.specs.Answer.{result, refused}
 use Rattle.terms.specs.Rows.{FirstOf, NoneOf}
 use Rattle.formula.specs.Formula.{Expr, literals, operators, value}
-use Rattle.formula.specs.Typed.{Typed, numbers, typed-value, positive}
+use Rattle.formula.specs.Typed.{Typed, plus, times, minus, numbers, typed-value, positive}
 use Rattle.formula.specs.Occurrences.{times-of, truth-at}
 use Rattle.formula.proofs.Marks.{literals-operators}
 use Rattle.formula.proofs.Values.{value-positive}
-use Rattle.grammar.specs.Grammar.{Derives}
+use Rattle.grammar.specs.Grammar.{Blanks, Factor, Product, Derives}
 use Rattle.grammar.specs.twins.Reader.{Outcome, means, read}
 use Rattle.grammar.specs.Rows.{NotASum}
+use Rattle.grammar.proofs.Append.{derives-plus, derives-minus, product-times, no-plus-product, no-minus-product}
 use Rattle.grammar.proofs.Complete.{read-complete, derives-unique}
 use Rattle.grammar.proofs.Sound.{read-sound}
 use Rattle.grammar.proofs.Longest.{read-stops, stops-read}
@@ -68,6 +69,24 @@ accepted-means = has-meaning
 -- and it is the only one.
 pub one-meaning : {text : List ℕ} {a b : Typed} → Derives text a → Derives text b → a ≡ b
 one-meaning = derives-unique
+
+-- "a sum is products joined by `+` or `-`, grouped from the left": behind any text, `+` or `-` joins a product to all of it,
+pub plus-joins-all-before : {x p q : List ℕ} {a b : Typed} → Derives x a → Product p b q → Blanks q [] → Derives (x ++ 43 ∷ p) (plus a b)
+plus-joins-all-before = derives-plus
+
+pub minus-joins-all-before : {x p q : List ℕ} {a b : Typed} → Derives x a → Product p b q → Blanks q [] → Derives (x ++ 45 ∷ p) (minus a b)
+minus-joins-all-before = derives-minus
+
+-- "and a product has `*` only": behind a product, `*` joins a factor to that product, and two products with a `+` or a `-` between them
+-- are none.
+pub times-joins-its-product : {x p q r : List ℕ} {a b : Typed} → Product x a q → Blanks q [] → Factor p b r → Product (x ++ 42 ∷ p) (times a b) r
+times-joins-its-product = product-times
+
+pub plus-makes-no-product : {x p q r s : List ℕ} {a b e : Typed} → Product x a q → Blanks q [] → Product p b r → Blanks r [] → Product (x ++ 43 ∷ p) e s → ¬ Blanks s []
+plus-makes-no-product = no-plus-product
+
+pub minus-makes-no-product : {x p q r s : List ℕ} {a b e : Typed} → Product x a q → Blanks q [] → Product p b r → Blanks r [] → Product (x ++ 45 ∷ p) e s → ¬ Blanks s []
+minus-makes-no-product = no-minus-product
 
 -- The executable reader accepts exactly the texts that derive an expression, and stops at the
 -- "length of the longest beginning that some ending would complete, limits set aside".

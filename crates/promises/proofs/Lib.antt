@@ -1,5 +1,6 @@
 pub mod laws
 pub mod Examples
+pub mod Binding
 pub mod Slips
 pub mod Neighbours
 pub mod Controls

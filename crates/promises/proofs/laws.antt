@@ -1,4 +1,7 @@
 pub mod Computing
+pub mod Levels
+pub mod Chains
+pub mod Binding
 pub mod Runs
 pub mod Accepted
 pub mod Asked

@@ -1,7 +1,9 @@
--- The examples that document 01 marks, each as it stands there.
+-- The examples that document 01 marks, each as it stands there, with `1+2-3` as request 1 has it.
 --   compiled-to  == a text, and what compiling it answers in a buffer with room enough
 --   expr text    == the positive form of what the text means
+--   order e      == the primitives of the gates of e, in order
 --   AllAsTold    == that every marked example comes out as document 01 says
+--   MinusAsTold  == that texts with `-` are grouped as request 1 says
 --   AlsoAsTold   == some neighbours of them: blanks, a closing too many, openings after early closings
 -- Assumes nothing.
 use Prim.Native.Nat.{ℕ}
@@ -11,10 +13,13 @@ use mathlib.Core.Bool.{Bool, true, false}
 use mathlib.Core.List.{List, [], _∷_, _++_, map}
 use lib.ListN.{replicate}
 use Rattle.terms.specs.Answer.{Answer, result, refused}
-use Rattle.formula.specs.Formula.{Expr, literal, join}
+use Rattle.formula.specs.Formula.{union, intersection, Expr, literal, join}
 use Rattle.formula.specs.Typed.{occurs}
 use Rattle.grammar.specs.twins.Reading.{reading}
 use Rattle.turning.specs.Tags.{price}
+use Rattle.turning.specs.Turning.{turned}
+use Rattle.weaving.specs.Gates.{in-order}
+use Rattle.weaving.specs.Labels.{weave}
 use Rattle.compiler.specs.twins.Compiling.{compiled}
 use Rattle.run.specs.Whole.{whole-run}
 use Rattle.listing.specs.Lines.{lines, refusal-line}
@@ -49,7 +54,7 @@ compiled-to =
     ∷ answers "1+2*3"
     (result (72 ∷ 3 ∷ 0 ∷ 2 ∷ 80 ∷ 2 ∷ 0 ∷ 0 ∷ 0 ∷ 1 ∷ 80 ∷ 3 ∷ 0 ∷ 0 ∷ 0 ∷ 1 ∷ 80 ∷ 1 ∷ 0 ∷ 1 ∷ 0 ∷ 1 ∷ 69 ∷ 0 ∷ 1 ∷ []))
     ∷ answers "1+2-3"
-    (result (72 ∷ 3 ∷ 0 ∷ 2 ∷ 80 ∷ 2 ∷ 0 ∷ 0 ∷ 0 ∷ 1 ∷ 78 ∷ 3 ∷ 0 ∷ 0 ∷ 0 ∷ 1 ∷ 80 ∷ 1 ∷ 0 ∷ 1 ∷ 0 ∷ 1 ∷ 69 ∷ 0 ∷ 1 ∷ []))
+    (result (72 ∷ 3 ∷ 0 ∷ 2 ∷ 80 ∷ 1 ∷ 0 ∷ 0 ∷ 0 ∷ 1 ∷ 80 ∷ 2 ∷ 0 ∷ 1 ∷ 0 ∷ 1 ∷ 78 ∷ 3 ∷ 0 ∷ 0 ∷ 0 ∷ 1 ∷ 69 ∷ 0 ∷ 1 ∷ []))
     ∷ answers "" (refused 5 0)
     ∷ answers "1+" (refused 5 2)
     ∷ answers "1 2" (refused 5 2)
@@ -67,6 +72,10 @@ read-off (refused r p) = occurs 0 true 0
 
 abbrev pub expr : String → Expr
 expr text = read-off (reading (bytes text))
+
+-- the primitives of its gates, in order
+abbrev pub order : Expr → List ℕ
+order e = map (λ x. x .primitive) (in-order e)
 
 -- an operator with its children exchanged
 abbrev pub exchanged : Expr → Expr
@@ -93,6 +102,47 @@ pub record AllAsTold : Type 0 where
   -- "For input `1+2*3` and a newline it writes exactly:" (scope 9)
   pub listed : listing-of (compiled (bytes "1+2*3\n") roomy)
       ≡ bytes "gates 3 labels 2\n0 2 + 0 0 1\n1 3 + 0 0 1\n2 1 + 1 0 1\ntrue 0 false 1\n"
+
+-- the literal p, plain and complemented, as occurrence k
+abbrev pub plain : ℕ → ℕ → Expr
+plain p k = occurs p true k
+
+abbrev pub bar : ℕ → ℕ → Expr
+bar p k = occurs p false k
+
+-- the tables of texts with `-`
+abbrev pub minus-to : List Example
+minus-to =
+    answers "1-2*3"
+    (result (72 ∷ 3 ∷ 0 ∷ 2 ∷ 78 ∷ 2 ∷ 0 ∷ 0 ∷ 0 ∷ 1 ∷ 78 ∷ 3 ∷ 0 ∷ 1 ∷ 0 ∷ 1 ∷ 80 ∷ 1 ∷ 0 ∷ 0 ∷ 0 ∷ 1 ∷ 69 ∷ 0 ∷ 1 ∷ []))
+    ∷ answers "1*2-3"
+    (result (72 ∷ 3 ∷ 0 ∷ 2 ∷ 80 ∷ 1 ∷ 0 ∷ 0 ∷ 0 ∷ 1 ∷ 80 ∷ 2 ∷ 0 ∷ 0 ∷ 0 ∷ 1 ∷ 78 ∷ 3 ∷ 0 ∷ 0 ∷ 0 ∷ 1 ∷ 69 ∷ 0 ∷ 1 ∷ []))
+    ∷ answers "1-2-3"
+    (result (72 ∷ 3 ∷ 0 ∷ 2 ∷ 80 ∷ 1 ∷ 0 ∷ 0 ∷ 0 ∷ 1 ∷ 78 ∷ 2 ∷ 0 ∷ 0 ∷ 0 ∷ 1 ∷ 78 ∷ 3 ∷ 0 ∷ 0 ∷ 0 ∷ 1 ∷ 69 ∷ 0 ∷ 1 ∷ []))
+    ∷ answers "1-2+3"
+    (result (72 ∷ 3 ∷ 0 ∷ 2 ∷ 80 ∷ 1 ∷ 0 ∷ 0 ∷ 0 ∷ 1 ∷ 78 ∷ 2 ∷ 0 ∷ 0 ∷ 0 ∷ 1 ∷ 80 ∷ 3 ∷ 0 ∷ 1 ∷ 0 ∷ 1 ∷ 69 ∷ 0 ∷ 1 ∷ []))
+    ∷ answers "1-(2-3)"
+    (result (72 ∷ 3 ∷ 0 ∷ 2 ∷ 78 ∷ 2 ∷ 0 ∷ 0 ∷ 0 ∷ 1 ∷ 80 ∷ 3 ∷ 0 ∷ 1 ∷ 0 ∷ 1 ∷ 80 ∷ 1 ∷ 0 ∷ 0 ∷ 0 ∷ 1 ∷ 69 ∷ 0 ∷ 1 ∷ []))
+    ∷ answers "1-" (refused 5 2)
+    ∷ []
+
+-- what they are in positive form, and the order of their gates
+pub record MinusAsTold : Type 0 where
+  pub answered : map (λ x. compiled (bytes (x .text)) roomy) minus-to ≡ map (λ x. x .told) minus-to
+  -- "`1+2-3` becomes (1+2)·!3 with gates in the order 1, 2, 3 and two labels." (scope 2.2)
+  pub less-a-sum : expr "1+2-3" ≡ join intersection (join union (plain 1 0) (plain 2 1)) (bar 3 2)
+  pub less-a-sum-order : order (turned (expr "1+2-3")) ≡ 1 ∷ 2 ∷ 3 ∷ []
+  pub less-a-sum-labels : weave (turned (expr "1+2-3")) .label-count ≡ 2
+  -- `1-2*3` is 1·(!2+!3)
+  pub less-a-product : expr "1-2*3" ≡ join intersection (plain 1 0) (join union (bar 2 1) (bar 3 2))
+  pub less-a-product-order : order (turned (expr "1-2*3")) ≡ 2 ∷ 3 ∷ 1 ∷ []
+  -- `1*2-3` is (1·2)·!3
+  pub product-less : expr "1*2-3" ≡ join intersection (join intersection (plain 1 0) (plain 2 1)) (bar 3 2)
+  pub product-less-order : order (turned (expr "1*2-3")) ≡ 1 ∷ 2 ∷ 3 ∷ []
+  -- `1-2-3` is (1·!2)·!3, `1-2+3` is (1·!2)+3, and `1-(2-3)` is 1·(!2+3)
+  pub less-and-less : expr "1-2-3" ≡ join intersection (join intersection (plain 1 0) (bar 2 1)) (bar 3 2)
+  pub less-and-more : expr "1-2+3" ≡ join union (join intersection (plain 1 0) (bar 2 1)) (plain 3 2)
+  pub less-in-parentheses : expr "1-(2-3)" ≡ join intersection (plain 1 0) (join union (bar 2 1) (plain 3 2))
 
 -- what the rows say of texts next to the marked ones
 pub record AlsoAsTold : Type 0 where

@@ -5,14 +5,14 @@
 --   piled-by x gs      == the labels handed out from a pile, where x says how a label is put back
 --   kept-by x e        == e without the literals that x does not keep
 --   renamed f e        == e with every primitive p named f p
---   order e            == the primitives of the gates of e, in order
 --   NoSlip             == that each slip gives another table or count
 -- Assumes nothing.
 use Prim.Native.Nat.{ℕ, zero, suc, _+_}
+use Prim.Native.String.{String}
 use mathlib.Core.Path.{_≡_}
 use mathlib.Core.Bool.{Bool, true, false, cond, not, _||_}
 use mathlib.Core.Option.{Option, none, some}
-use mathlib.Core.List.{List, [], _∷_, _++_, map}
+use mathlib.Core.List.{List, [], _∷_, _++_}
 use lib.Dec.{ltb, eqb}
 use lib.ListN.{length, take, getD}
 use Rattle.terms.specs.Terms.{Primitive, Place, Label, first-label}
@@ -20,6 +20,7 @@ use Rattle.terms.specs.Answer.{result}
 use Rattle.formula.specs.Formula.{Literal, Kind, Expr, literal, join, literals}
 use Rattle.formula.specs.Typed.{Typed, occurs, positive}
 use Rattle.formula.specs.Marks.{placed}
+use Rattle.grammar.specs.twins.Reader.{Outcome, means, stops}
 use Rattle.turning.specs.Tags.{priced, price, row, smaller}
 use Rattle.turning.specs.Turning.{exchanges, turned}
 use Rattle.weaving.specs.Gates.{Gate, in-order, gates, true-end, false-end}
@@ -27,10 +28,8 @@ use Rattle.weaving.specs.Labels.{Store, label-of, labelled, left, weave}
 use Rattle.compiler.specs.Compiled.{table-of}
 use Rattle.compiler.specs.twins.Compiling.{compiled}
 use Rattle.terms.specs.Texts.{bytes}
-use Rattle.promises.specs.examples.Marked.{roomy, run-of, expr}
-
-abbrev pub order : Expr → List ℕ
-order e = map (λ x. x .primitive) (in-order e)
+use Rattle.promises.specs.examples.Marked.{roomy, run-of, expr, order}
+use Rattle.promises.specs.examples.Binding.{Levels, minus-in-products, read-by}
 
 -- Turning gone wrong. What decides is given the operator's kind, its children as typed and its children settled.
 abbrev pub Deciding : Type 0
@@ -182,6 +181,14 @@ renamed name (join k l r) = join k (renamed name l) (renamed name r)
 abbrev pub renamed-table : (Primitive → Primitive) → Typed → List ℕ
 renamed-table name e = table-of (weave (turned (renamed name (positive 0 e))))
 
+-- Reading gone wrong, by operators that bind otherwise: the positive form of what such a reader makes of a text. (scope 10.2)
+abbrev pub meant-as : Outcome → Expr
+meant-as (means e) = positive 0 e
+meant-as (stops p) = occurs 0 true 0
+
+abbrev pub expr-by : Levels → String → Expr
+expr-by levels text = meant-as (read-by levels (bytes text))
+
 -- figure 16 of the paper
 abbrev pub figure-16 : Expr
 figure-16 = expr "(1+2)*((3+4)*5)+(6*7+(8+9)*(10+11*12))"
@@ -209,5 +216,7 @@ pub record NoSlip : Type 0 where
   pub place-by-place-order : order (turned (expr "1+(2+3)*(4+5)")) ≡ 2 ∷ 3 ∷ 4 ∷ 5 ∷ 1 ∷ []
   pub smallest-second-order : order (turned-by smallest-second (expr "1+(2+3)*(4+5)")) ≡ 1 ∷ 2 ∷ 3 ∷ 4 ∷ 5 ∷ []
   pub sum-second-order : order (turned-by sum-second (expr "1+(2+3)*(4+5)")) ≡ 1 ∷ 2 ∷ 3 ∷ 4 ∷ 5 ∷ []
+  pub minus-in-sums-order : order (turned (expr "1+2-3")) ≡ 1 ∷ 2 ∷ 3 ∷ []
+  pub minus-in-products-order : order (turned (expr-by minus-in-products "1+2-3")) ≡ 2 ∷ 3 ∷ 1 ∷ []
   pub settled-children-order : order (turned (expr "1+2*(3+4)")) ≡ 3 ∷ 4 ∷ 2 ∷ 1 ∷ []
   pub unturned-children-order : order (turned-by unturned-children (expr "1+2*(3+4)")) ≡ 1 ∷ 3 ∷ 4 ∷ 2 ∷ []
