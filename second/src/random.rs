@@ -62,11 +62,13 @@ impl Random {
     pub fn expression(&mut self, literals: usize) -> Vec<u8> {
         let shape = self.pick(&SHAPES);
         let alternating = self.one_in(2);
+        let bare = self.pick(&[10, 10, 10, 3, 1]);
         let mut writer = Writer {
             random: self,
             out: Vec::new(),
             shape,
             alternating,
+            bare,
         };
         writer.part(literals, 0, 0);
         writer.out
@@ -207,6 +209,9 @@ struct Writer<'a> {
     shape: Shape,
     /// Unions and intersections take turns from level to level; else they are random.
     alternating: bool,
+    /// One part in so many goes without parentheses. With 1 all do, and the text is a chain in
+    /// which binding and grouping alone say what is joined.
+    bare: usize,
 }
 
 impl Writer<'_> {
@@ -215,7 +220,7 @@ impl Writer<'_> {
         if self.random.one_in(12) {
             self.out.push(self.random.pick(b" \n"));
         }
-        let bare = depth > 0 && self.random.one_in(10);
+        let bare = depth > 0 && self.random.one_in(self.bare);
         let enclosed = literals > 1 && depth > 0 && open < MOST_OPEN && !bare;
         if (literals == 1 || enclosed) && self.random.one_in(5) {
             self.out.push(b'!');

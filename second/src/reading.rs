@@ -1,5 +1,5 @@
-//! The reading of a text that refusals 1 to 6 let pass as a typed expression: sums, products
-//! and factors, both levels grouped from the left.
+//! The reading of a text that refusals 1 to 6 let pass as a typed expression: a sum is products
+//! joined by `+` or `-`, a product factors joined by `*`, both grouped from the left.
 
 use crate::refusal::Refusal;
 use crate::text::{self, value};
@@ -38,16 +38,16 @@ impl Reader<'_> {
     }
 
     fn sum(&mut self) -> Typed {
-        self.joined(Reader::product, |byte| {
-            (byte == b'+').then_some(Sign::Union)
+        self.joined(Reader::product, |byte| match byte {
+            b'+' => Some(Sign::Union),
+            b'-' => Some(Sign::Difference),
+            _ => None,
         })
     }
 
     fn product(&mut self) -> Typed {
-        self.joined(Reader::factor, |byte| match byte {
-            b'*' => Some(Sign::Intersection),
-            b'-' => Some(Sign::Difference),
-            _ => None,
+        self.joined(Reader::factor, |byte| {
+            (byte == b'*').then_some(Sign::Intersection)
         })
     }
 
@@ -103,6 +103,74 @@ impl Reader<'_> {
         Typed::Number {
             primitive: value(&rest[..length]),
             occurrence,
+        }
+    }
+}
+
+#[cfg(test)]
+mod tests {
+    use super::*;
+
+    type Part = fn(&[u8]) -> Option<String>;
+
+    /// The grammar read off the scope by trying every split; every operation is written in
+    /// parentheses. That no text has two readings is seen on the way.
+    fn sum(text: &[u8]) -> Option<String> {
+        product(text).or_else(|| split(text, b"+-", sum, product))
+    }
+
+    fn product(text: &[u8]) -> Option<String> {
+        factor(text).or_else(|| split(text, b"*", product, factor))
+    }
+
+    fn factor(text: &[u8]) -> Option<String> {
+        match text {
+            [b'!', rest @ ..] => factor(rest).map(|of| format!("!{of}")),
+            [b'(', inner @ .., b')'] => sum(inner),
+            _ if text.is_empty() || !text.iter().all(u8::is_ascii_digit) => None,
+            _ => Some(String::from_utf8_lossy(text).into_owned()),
+        }
+    }
+
+    fn split(text: &[u8], signs: &[u8], left: Part, right: Part) -> Option<String> {
+        let at = (0..text.len()).filter(|&at| signs.contains(&text[at]));
+        let mut readings = at.filter_map(|at| {
+            let (left, right) = (left(&text[..at])?, right(&text[at + 1..])?);
+            Some(format!("({left}{}{right})", char::from(text[at])))
+        });
+        let reading = readings.next();
+        assert_eq!(readings.next(), None, "a text has one reading");
+        reading
+    }
+
+    /// A typed expression, every operation in parentheses.
+    fn written(typed: &Typed) -> String {
+        match typed {
+            Typed::Number { primitive, .. } => primitive.to_string(),
+            Typed::Complement { times, of } => "!".repeat(*times) + &written(of),
+            Typed::Joined { sign, left, right } => {
+                let sign = match sign {
+                    Sign::Union => '+',
+                    Sign::Intersection => '*',
+                    Sign::Difference => '-',
+                };
+                format!("({}{sign}{})", written(left), written(right))
+            }
+        }
+    }
+
+    #[test]
+    fn readings_by_trying_every_split() {
+        const BYTES: &[u8] = b"1+*-!()";
+        for length in 0..=7u32 {
+            for number in 0..BYTES.len().pow(length) {
+                let byte = |place| BYTES[number / BYTES.len().pow(place) % BYTES.len()];
+                let text: Vec<u8> = (0..length).map(byte).collect();
+                if let Ok(typed) = read(&text) {
+                    let text = String::from_utf8_lossy(&text).into_owned();
+                    assert_eq!(Some(written(&typed)), sum(text.as_bytes()), "{text}");
+                }
+            }
         }
     }
 }

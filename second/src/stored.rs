@@ -18,6 +18,7 @@ type Case = (Vec<u8>, usize);
 pub fn bytes(seed: u64) -> Vec<u8> {
     let mut random = Random::new(seed);
     let mut cases = examples();
+    cases.extend(chains());
     cases.extend(expressions(&mut random));
     cases.extend(faulty(&mut random));
     cases
@@ -56,8 +57,14 @@ pub fn examples() -> Vec<Case> {
         "1+2*3",
         "1+2*3\n",
         "1+2-3",
+        "1-2*3",
+        "1*2-3",
+        "1-2-3",
+        "1-2+3",
+        "1-(2-3)",
         "",
         "1+",
+        "1-",
         "1 2",
         "()",
         "1024 &",
@@ -81,6 +88,49 @@ pub fn examples() -> Vec<Case> {
         .map(|text| (text.into_bytes(), ample_room()));
     let rooms = [12, 13, 14].map(|room| (b"5".to_vec(), room));
     ample.chain(rooms).collect()
+}
+
+/// Chains with the signs `+`, `-` and `*` in all mixtures, bare or with parentheses and
+/// complements, one of the most literals, and some with a `-` at fault. A reader that binds
+/// or groups otherwise reads many of them otherwise.
+pub fn chains() -> Vec<Case> {
+    let mixed = [
+        "1?2?3",
+        "1?2?3?4",
+        "1?2?3?4?5",
+        "(1?2)?3",
+        "1?(2?3)",
+        "(1?2)?3?4",
+        "1?(2?3)?4",
+        "1?2?(3?4)",
+        "(1?2?3)?4",
+        "1?(2?3?4)",
+        "1?(2?3)?(4?5)",
+        "!1?2?3",
+        "1?!2?3",
+        "1?2?!3",
+        "!(1?2)?3",
+        "1?!(2?3)",
+        "!(1?2?3)",
+    ];
+    let others = ["1 -2\n* 3 - 4\n", "-1", "1--2", "1+-2", "1*2-*3", "(1-)"];
+    let mut texts: Vec<String> = mixed.iter().flat_map(|text| with_all_signs(text)).collect();
+    texts.extend(others.iter().map(ToString::to_string));
+    texts.push("1".to_string() + &"+2-3*4".repeat(MOST_LITERALS / 3));
+    let texts = texts.into_iter();
+    texts
+        .map(|text| (text.into_bytes(), ample_room()))
+        .collect()
+}
+
+/// The text with each of `+`, `-` and `*` at every `?`.
+fn with_all_signs(text: &str) -> Vec<String> {
+    let mut texts = vec![text.to_string()];
+    while texts[0].contains('?') {
+        let signs = |text: String| ["+", "-", "*"].map(|sign| text.replacen('?', sign, 1));
+        texts = texts.into_iter().flat_map(signs).collect();
+    }
+    texts
 }
 
 /// Expressions of every number of literals up to 48, and of some more up to the most.

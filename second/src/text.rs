@@ -142,11 +142,11 @@ mod tests {
 
     /// The grammar read off the scope by trying every split; it knows nothing of beginnings.
     fn is_sum(text: &[u8]) -> bool {
-        is_product(text) || joined(text, b"+", is_sum, is_product)
+        is_product(text) || joined(text, b"+-", is_sum, is_product)
     }
 
     fn is_product(text: &[u8]) -> bool {
-        is_factor(text) || joined(text, b"*-", is_product, is_factor)
+        is_factor(text) || joined(text, b"*", is_product, is_factor)
     }
 
     fn is_factor(text: &[u8]) -> bool {

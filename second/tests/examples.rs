@@ -21,10 +21,78 @@ fn differences() {
     let mut complement = difference;
     complement[4] = b'N';
     assert_eq!(table("!(1+2)"), complement);
-    assert_eq!(order("1+2-3"), [2, 3, 1]);
-    let table = table("1+2-3");
-    let kinds: Vec<u8> = records(&table).iter().map(|gate| gate[0]).collect();
-    assert_eq!(kinds, [b'P', b'N', b'P']);
+}
+
+/// A table of three gates and two labels; a gate is its kind, primitive and three labels.
+fn three_gates(gates: [[u8; 5]; 3]) -> Vec<u8> {
+    let gate =
+        |[kind, primitive, labels @ ..]: [u8; 5]| [&[kind, primitive, 0], &labels[..]].concat();
+    [&[72, 3, 0, 2], &gates.map(gate).concat()[..], &[69, 0, 1]].concat()
+}
+
+/// Request 1: a sum is products joined by `+` or `-`, and a product has `*` only.
+#[test]
+fn minus_belongs_with_plus() {
+    let cases: [(&str, [[u8; 5]; 3]); 6] = [
+        (
+            "1+2-3",
+            [[80, 1, 0, 0, 1], [80, 2, 1, 0, 1], [78, 3, 0, 0, 1]],
+        ),
+        (
+            "1-2*3",
+            [[78, 2, 0, 0, 1], [78, 3, 1, 0, 1], [80, 1, 0, 0, 1]],
+        ),
+        (
+            "1*2-3",
+            [[80, 1, 0, 0, 1], [80, 2, 0, 0, 1], [78, 3, 0, 0, 1]],
+        ),
+        (
+            "1-2-3",
+            [[80, 1, 0, 0, 1], [78, 2, 0, 0, 1], [78, 3, 0, 0, 1]],
+        ),
+        (
+            "1-2+3",
+            [[80, 1, 0, 0, 1], [78, 2, 0, 0, 1], [80, 3, 1, 0, 1]],
+        ),
+        (
+            "1-(2-3)",
+            [[78, 2, 0, 0, 1], [80, 3, 1, 0, 1], [80, 1, 0, 0, 1]],
+        ),
+    ];
+    for (text, gates) in cases {
+        assert_eq!(table(text), three_gates(gates), "{text}");
+    }
+}
+
+/// Texts on the left mean what those on the right say in parentheses alone.
+#[test]
+fn chains_in_parentheses() {
+    let cases = [
+        ("1+2-3", "(1+2)*!3"),
+        ("1-2*3", "1*(!2+!3)"),
+        ("1*2-3", "(1*2)*!3"),
+        ("1-2-3", "(1*!2)*!3"),
+        ("1-2+3", "(1*!2)+3"),
+        ("1-(2-3)", "1*(!2+3)"),
+        ("1+2-3+4-5", "(((1+2)*!3)+4)*!5"),
+        ("1-2*3+4*5-6", "((1*!(2*3))+(4*5))*!6"),
+        ("1*2-3*4*5-6", "((1*2)*!((3*4)*5))*!6"),
+        ("1-!2*3+!4-5", "((1*!((!2)*3))+!4)*!5"),
+        ("!1-2*(3-4+5)-6", "(!1*!(2*((3*!4)+5)))*!6"),
+        ("!(1+2-3)*4-5", "(!((1+2)*!3)*4)*!5"),
+    ];
+    for (text, meant) in cases {
+        assert_eq!(table(text), table(meant), "{text}");
+    }
+}
+
+/// How the meaning that a text had before request 1 is kept: by parentheses.
+#[test]
+fn former_meanings_in_parentheses() {
+    assert_eq!(order("1+(2-3)"), [2, 3, 1]);
+    assert_eq!(table("1+(2-3)"), table("1+2*!3"));
+    assert_eq!(order("(1-2)*3"), [1, 2, 3]);
+    assert_eq!(table("(1-2)*3"), table("1*!2*3"));
 }
 
 #[test]
@@ -56,9 +124,14 @@ fn tags_of_a_sum_with_a_product() {
 
 #[test]
 fn texts_that_are_no_sums() {
-    let cases: [(&str, u64); 12] = [
+    let cases: [(&str, u64); 17] = [
         ("", 0),
         ("1+", 2),
+        ("1-", 2),
+        ("-1", 0),
+        ("1--2", 2),
+        ("1+-2", 2),
+        ("1*2-*3", 4),
         ("1 2", 2),
         ("()", 1),
         (" \n", 2),

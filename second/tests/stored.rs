@@ -46,7 +46,7 @@ fn answers_are_right() {
 fn every_answer_is_there() {
     let records = records();
     let tables = records.iter().filter(|record| record.answer[0] == b'H');
-    assert_eq!((records.len(), tables.count()), (4_439, 1_896));
+    assert_eq!((records.len(), tables.count()), (4_857, 2_274));
     for refusal in [1, 2, 3, 4, 5, 6, 8] {
         let given = |record: &Record| record.answer[..2] == [b'R', refusal];
         assert!(records.iter().any(given), "refusal {refusal}");

@@ -18,11 +18,12 @@ pub struct Count {
     pub compiles: usize,
 }
 
-/// Compares the other program with the second on the scope's examples, on all texts of
-/// at most four bytes, and on so many random texts; answers the first difference.
+/// Compares the other program with the second on the scope's examples, on the chains of mixed
+/// signs, on all texts of at most four bytes, and on so many random texts; answers the first
+/// difference.
 pub fn compare(other: &impl Program, seed: u64, count: usize) -> Result<Count, String> {
     let mut done = Count::default();
-    for (text, _) in stored::examples() {
+    for (text, _) in stored::examples().into_iter().chain(stored::chains()) {
         try_text(other, &text, &mut done)?;
     }
     for text in short_texts() {

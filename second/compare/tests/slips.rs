@@ -1,14 +1,20 @@
 //! The comparison tried on programs with a slip of their own: each slip is found, with an
 //! input that cannot be shortened; and the second program does not differ from itself.
 
+mod misreading;
+
 use compare::program::{
-    Answered, Compiled, Counts, EndLabels, Fed, Moved, Program, Recorded, Second,
+    expected, Answered, Compiled, Counts, EndLabels, Fed, Moved, Program, Recorded, Second,
 };
 use compare::{material, tables, texts};
+use misreading::Reading;
+use second::compiling::table_of;
+use second::random::Random;
 
 #[derive(Clone, Copy, PartialEq)]
 enum Slip {
     None,
+    Misreads(Reading),
     PlaceOfRefusal5,
     WritesOneByteMore,
     WritesBeforeRefusing,
@@ -24,6 +30,11 @@ enum Slip {
 
 impl Program for Slip {
     fn compile(&self, text: &[u8], out: &mut [u8]) -> Compiled {
+        if let Slip::Misreads(reading) = self {
+            let (answer, written) = expected(&reading.table(text), out.len());
+            out[..written.len()].copy_from_slice(&written);
+            return answer;
+        }
         let mut answer = Second.compile(text, out);
         match self {
             Slip::PlaceOfRefusal5 if answer.refusal == 5 && text.contains(&b'!') => answer.at += 1,
@@ -143,5 +154,49 @@ fn slips_of_running() {
         let difference = tables::compare(&slip, 3, 20_000).unwrap_err();
         assert!(difference.starts_with(shortest), "{difference}");
         assert!(difference.contains(part), "{difference}");
+    }
+}
+
+/// A misreading is found before any random text. Products of numbers alone come out alike
+/// however they are grouped, so the text that tells them apart is longer.
+#[test]
+fn slips_of_reading() {
+    assert!(texts::compare(&Slip::Misreads(misreading::RIGHT), 4, 2_000).is_ok());
+    let slips = [
+        (misreading::MINUS_WITH_TIMES, "text of 5 bytes \"1+2-3\""),
+        (misreading::ONE_LEVEL, "text of 5 bytes \"1+3*4\""),
+        (misreading::SUMS_FROM_THE_RIGHT, "text of 5 bytes \"1+2-3\""),
+        (
+            misreading::PRODUCTS_FROM_THE_RIGHT,
+            "text of 9 bytes \"1*(2+3)*4\"",
+        ),
+    ];
+    for (reading, shortest) in slips {
+        let difference = texts::compare(&Slip::Misreads(reading), 4, 0).unwrap_err();
+        assert!(difference.starts_with(shortest), "{difference}");
+    }
+}
+
+/// How many of the texts a misreading gives another table than the scope's.
+fn told_apart(reading: Reading, texts: &[Vec<u8>]) -> usize {
+    let differs = |text: &&Vec<u8>| reading.table(text) != table_of(text);
+    texts.iter().filter(differs).count()
+}
+
+/// Random texts find the misreadings by themselves, and bare chains among them those of sums.
+#[test]
+fn random_texts_tell_misreadings_apart() {
+    let texts: Vec<Vec<u8>> = (0..4_000).map(|seed| Random::new(seed).text()).collect();
+    let bare = |text: &&Vec<u8>| !text.contains(&b'(');
+    let chains: Vec<Vec<u8>> = texts.iter().filter(bare).cloned().collect();
+    assert_eq!(told_apart(misreading::RIGHT, &texts), 0);
+    assert!(told_apart(misreading::PRODUCTS_FROM_THE_RIGHT, &texts) > 150);
+    for reading in [
+        misreading::MINUS_WITH_TIMES,
+        misreading::ONE_LEVEL,
+        misreading::SUMS_FROM_THE_RIGHT,
+    ] {
+        assert!(told_apart(reading, &texts) > 800);
+        assert!(told_apart(reading, &chains) > 250);
     }
 }

@@ -47,11 +47,11 @@ fn tree_like(first: usize, literals: usize, depth: usize) -> String {
     format!("({left}{sign}{right})")
 }
 
-/// One product, grouped from the left.
+/// One product, grouped from the left, every other factor complemented.
 fn left_deep(literals: usize) -> String {
     let mut text = "0".to_string();
     for number in 1..literals {
-        let sign = if number % 2 == 0 { '*' } else { '-' };
+        let sign = if number % 2 == 0 { "*" } else { "*!" };
         text += &format!("{sign}{number}");
     }
     text
