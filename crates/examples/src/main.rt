@@ -1,5 +1,5 @@
-// Compiles the examples of document 01 and the worst texts, and writes a line for each: its name, and then the counts of
-// its table or its refusal. The stack holds one text and one table.
+// Compiles the examples of document 01 and of request 1, and the worst texts, and writes a line for each: its name, and then
+// the counts of its table or its refusal. The stack holds one text and one table.
 mod answers;
 mod texts;
 
@@ -17,10 +17,21 @@ fn typed(out: &mut [u8; 6151]) {
     show(b"1+2-3", b"1+2-3", out);
 }
 
+// Chains of `+`, `-` and `*`: with `-` in the product the last would have two labels.
+fn chains(out: &mut [u8; 6151]) {
+    show(b"1-2*3", b"1-2*3", out);
+    show(b"1*2-3", b"1*2-3", out);
+    show(b"1-2-3", b"1-2-3", out);
+    show(b"1-2+3", b"1-2+3", out);
+    show(b"1-(2-3)", b"1-(2-3)", out);
+    show(b"1+2-3*4", b"1+2-3*4", out);
+}
+
 // The examples that are refused where they stand, and a neighbour.
 fn refused(out: &mut [u8; 6151]) {
     show(b"no text", b"", out);
     show(b"1+", b"1+", out);
+    show(b"1-", b"1-", out);
     show(b"1 2", b"1 2", out);
     show(b"()", b"()", out);
     show(b"1024 &", b"1024 &", out);
@@ -97,6 +108,7 @@ fn main() {
     let mut text = [0u8; 16385];
     let mut out = [0u8; 6151];
     typed(&mut out);
+    chains(&mut out);
     refused(&mut out);
     large(&mut out);
     limits(&mut text, &mut out);

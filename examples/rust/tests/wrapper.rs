@@ -46,6 +46,16 @@ fn every_row_of_truths_ends_as_the_expression_says() {
 }
 
 #[test]
+fn minus_binds_as_plus_does() {
+    let (mut room, mut other) = ([0; ROOM], [0; ROOM]);
+    for (text, meant) in [("1+2-3", "(1+2)*!3"), ("1-2*3", "1*!(2*3)")] {
+        let table = compile(text.as_bytes(), &mut room);
+        assert_eq!(table, compile(meant.as_bytes(), &mut other));
+    }
+    assert_eq!(compile(b"1-", &mut room), Err(refusal(5, 2)));
+}
+
+#[test]
 fn a_run_refuses_what_is_no_table_and_what_comes_too_soon_or_too_late() {
     let start = Run::start(&FIVE).unwrap();
     assert_eq!(start, Run { gate: 0, label: 0 });
