@@ -14,7 +14,10 @@ PREFIX ?= /usr/local
 override PREFIX := $(abspath $(PREFIX))
 ROOT := $(DESTDIR)$(PREFIX)
 VERSION := $(shell sed -n 's/^.define BLIST_VERSION "\(.*\)"/\1/p' include/blist.h)
-MAJOR := $(firstword $(subst ., ,$(VERSION)))
+MAJOR := $(word 1,$(subst ., ,$(VERSION)))
+MINOR := $(word 2,$(subst ., ,$(VERSION)))
+# libraries with the same two numbers read a text alike, so that one may stand in for the other
+SERIES := $(MAJOR).$(MINOR)
 SOURCES := $(shell find crates -name '*.rt' -o -name '*.antt') crates.txt
 LIBRARY := target/staticlib/libblist.a
 LISTING := target/bin/list
@@ -22,7 +25,7 @@ MANUAL := target/man/list.1 target/man/blist.3
 SHARED := target/staticlib/libblist.so.$(VERSION)
 SECOND := second/target/release/second
 INSTALLED := include/blist.h lib/libblist.a lib/pkgconfig/blist.pc lib/cmake/blist bin/list libexec/blist \
-	share/man/man1/list.1 share/man/man3/blist.3 lib/libblist.so lib/libblist.so.$(MAJOR) lib/libblist.so.$(VERSION)
+	share/man/man1/list.1 share/man/man3/blist.3 lib/libblist.so lib/libblist.so.$(SERIES) lib/libblist.so.$(VERSION)
 
 .PHONY: all check install install-shared uninstall pictures clean help
 all: $(LIBRARY)
@@ -36,7 +39,7 @@ $(LISTING): $(SOURCES)
 	@touch $@
 
 $(SHARED): $(LIBRARY)
-	$(CC) -shared -Wl,--whole-archive $< -Wl,--no-whole-archive -Wl,-z,defs -Wl,-soname,libblist.so.$(MAJOR) -o $@
+	$(CC) -shared -Wl,--whole-archive $< -Wl,--no-whole-archive -Wl,-z,defs -Wl,-soname,libblist.so.$(SERIES) -o $@
 
 target/man/%: include/man.sh include/blist.h list
 	@mkdir -p $(@D)
@@ -52,7 +55,7 @@ install: $(LIBRARY) $(LISTING) $(MANUAL)
 	install -m 644 $(LIBRARY) $(ROOT)/lib/libblist.a
 	sed 's|@VERSION@|$(VERSION)|' include/blist.pc.in > $(ROOT)/lib/pkgconfig/blist.pc
 	install -m 644 include/blist-config.cmake $(ROOT)/lib/cmake/blist/blist-config.cmake
-	sed 's|@VERSION@|$(VERSION)|; s|@MAJOR@|$(MAJOR)|' include/blist-config-version.cmake.in > $(ROOT)/lib/cmake/blist/blist-config-version.cmake
+	sed 's|@VERSION@|$(VERSION)|; s|@MAJOR@|$(MAJOR)|; s|@MINOR@|$(MINOR)|' include/blist-config-version.cmake.in > $(ROOT)/lib/cmake/blist/blist-config-version.cmake
 	install -m 755 list $(ROOT)/bin/list
 	install -m 755 $(LISTING) $(ROOT)/libexec/blist/list
 	install -m 755 tests/run-x86.sh $(ROOT)/libexec/blist/run-x86.sh
@@ -61,8 +64,8 @@ install: $(LIBRARY) $(LISTING) $(MANUAL)
 
 install-shared: install $(SHARED)
 	install -m 755 $(SHARED) $(ROOT)/lib/libblist.so.$(VERSION)
-	ln -sf libblist.so.$(VERSION) $(ROOT)/lib/libblist.so.$(MAJOR)
-	ln -sf libblist.so.$(MAJOR) $(ROOT)/lib/libblist.so
+	ln -sf libblist.so.$(VERSION) $(ROOT)/lib/libblist.so.$(SERIES)
+	ln -sf libblist.so.$(SERIES) $(ROOT)/lib/libblist.so
 
 uninstall:
 	cd $(ROOT) && rm -rf $(INSTALLED)

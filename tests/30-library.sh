@@ -89,7 +89,7 @@ if [ "$cc86" = gcc ]; then
     read -ra flags <<< "$(pkg-config --cflags --libs blist)"
     gcc "${strict[@]}" examples/c/smallest.c -o "$work/with-shared" "${flags[@]}" -Wl,-rpath,"$work/shared/lib"
     "$work/with-shared" | diff - examples/c/smallest.out
-    readelf -d "$work/with-shared" | grep -q "libblist.so.${version%%.*}"
+    readelf -d "$work/with-shared" | grep -qF "libblist.so.${version%.*}]"
 else
     echo "the shared library is not tried: what is compiled for x86-64 here is linked statically"
 fi
