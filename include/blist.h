@@ -70,9 +70,9 @@
 #include <stdint.h>
 
 #define BLIST_VERSION_MAJOR 1
-#define BLIST_VERSION_MINOR 0
+#define BLIST_VERSION_MINOR 1
 #define BLIST_VERSION_PATCH 0
-#define BLIST_VERSION "1.0.0"
+#define BLIST_VERSION "1.1.0"
 #define BLIST_VERSION_NUMBER (10000 * BLIST_VERSION_MAJOR + 100 * BLIST_VERSION_MINOR + BLIST_VERSION_PATCH)
 
 #ifdef __cplusplus
@@ -97,13 +97,13 @@ extern "C" {
  * stand anywhere but inside a number, and mean nothing. No byte ends the text
  * but its length: a byte 0 is not allowed.
  *
- *   sum      products joined by `+`
- *   product  factors joined by `*` or `-`
+ *   sum      products joined by `+` or `-`
+ *   product  factors joined by `*`
  *   factor   `!` and a factor, or a number, or a sum in parentheses
  *
- * Both levels group from the left. A number has 1 to 4 digits and a value from
- * 0 to 1,023; it names a primitive, and each occurrence is a literal of its
- * own.
+ * Both levels group from the left: `1+2-3` is (1+2) less 3, and `1-2*3` is 1
+ * less 2*3. A number has 1 to 4 digits and a value from 0 to 1,023; it names a
+ * primitive, and each occurrence is a literal of its own.
  *
  * The table
  *
