@@ -1,5 +1,5 @@
 -- The code's store keeps the page's store through each thing that a gate does: a slot that is given back or handed out is the
--- label's byte, since no label has two holders and the lowest free label is the first free slot. Assumes nothing.
+-- label's bit, since no label has two holders and the lowest free label is the first free slot. Assumes nothing.
 use Prim.Native.Nat.{ℕ, zero, suc, _+_, _<_, _≤_}
 use mathlib.Core.Path.{_≡_, refl, sym, ap, _∙_}
 use mathlib.Core.Logic.{_≢_}
@@ -141,6 +141,18 @@ module _ (st : coded.Store) (hs : List ℕ) (s : Store) (k : Keeps st hs s) wher
   keeps-held p at same h =
       elim (known (has-label p s)) [ on b ↦ rw b k | off b ↦ absurd (h (rw same (k .others p b))) ]
 
+  -- the lowest free label is the first free slot
+  pub first-free : (r : ℕ) → First (Free st) r → slot-free (getD s r free) ≡ true
+  first-free r first = sym (rw zero-add at (k .frees r (omega (arith, free-within st r (first .here))))) ∙ first .here
+
+  pub held-before : (r : ℕ) → First (Free st) r → (j : ℕ) → j < r → slot-free (getD s j free) ≡ false
+  held-before r first j x =
+      let z = free-within st r (first .here) in
+      elim (known (slot-free (getD s j free))) [
+        | on c ↦ absurd (first .none-before j x (rw zero-add at (k .frees j (omega arith)) ∙ c))
+        | off c ↦ c
+      ]
+
   -- a place that holds none gets the lowest free label
   handed-on : (p r : ℕ) (st′ : coded.Store) → getD hs p 0 ≡ 0 → p < length hs → First (Free st) r → Changed st st′ r false
       → Keeps st′ (set hs p (r + 1)) (labelled p s)
@@ -155,15 +167,10 @@ module _ (st : coded.Store) (hs : List ℕ) (s : Store) (k : Keeps st hs s) wher
       nought-not e = omega arith
 
       here : slot-free (getD s r free) ≡ true
-      here = sym (rw zero-add at (k .frees r (omega (arith, free-within st r (first .here))))) ∙ first .here
+      here = first-free r first
 
       none : (j : ℕ) → j < r → slot-free (getD s j free) ≡ false
-      none j x =
-          let z = free-within st r (first .here) in
-          elim (known (slot-free (getD s j free))) [
-            | on c ↦ absurd (first .none-before j x (rw zero-add at (k .frees j (omega arith)) ∙ c))
-            | off c ↦ c
-          ]
+      none = held-before r first
 
       frees : has-label p s ≡ false → (j : ℕ) → first-label + j < label-room
           → is-free st′ (first-label + j) ≡ slot-free (getD (hand-out p s) j free)

@@ -1,84 +1,69 @@
--- The bytes of the store: a stored byte changes one label, and a search from the first label on ends at the lowest free one;
--- a tidy store is known by its free labels. Assumes nothing.
-use Prim.Native.Nat.{ℕ, _≤_, _<_}
+-- The word of the store: a label's bit is set and cleared alone, and the zeros at the low end of the word reach to the lowest free
+-- label; a store is known by its free labels. Assumes nothing.
+use Prim.Native.Nat.{ℕ, _-_, _^_, _<_}
 use mathlib.Core.Path.{_≡_, sym, ap, _∙_}
-use mathlib.Core.Bool.{true≢false}
-use mathlib.Core.List.{List}
-use native.Mathlib.Decide.{ℕ-discrete}
+use mathlib.Core.Logic.{_≢_}
+use mathlib.Core.Bool.{Bool, true, false, true≢false, and-false, and-true, or-true, or-false}
 use native.Mathlib.Omega.{arith}
-use lib.Dec.{eqb, ltb}
-use lib.ListN.{length, getD, set, replicate, length-set, length-replicate, getD-replicate}
-use lib.Seq.{getD-set-same, getD-set-other, ext-getD}
-use borrow.Author.Tests.{lt-ltb, ltb-true, ltb-false, eqb-true, eqb-false}
+use lib.Dec.{ltb}
+use lib.Bits.{bitAnd, bitOr}
+use lib.Count.{trailingZeros}
+use borrow.Author.Tests.{lt-ltb, ltb-true, ne-eqb}
 use Rattle.terms.specs.Terms.{Label}
 use Rattle.terms.specs.First.{First}
+use Rattle.terms.specs.code.Bits.{bit}
+use Rattle.terms.proofs.Bits.{bit-set, bit-cleared, bit-of-all, trailing-first, bits-same}
 use Rattle.weaving.specs.declared.label_store.Store.{Store}
-use Rattle.weaving.specs.code.Kept.{label-room, is-free, Free, Tidy, SomeFree, Emptied, Changed}
-use Rattle.weaving.proofs.Store.{on, off, known}
+use Rattle.weaving.specs.code.Kept.{label-room, is-free, Free, SomeFree, Emptied, Changed}
+use Rattle.weaving.proofs.Store.{on, off, known, eqb-same}
 
--- a stored byte that says free or taken keeps a store tidy
-set-tidy : (st : Store) (l b : ℕ) → l < label-room → b ≤ 1 → Tidy st → Tidy (record { free = set (st .free) l b })
-set-tidy st l b h low t =
-    record {
-      long = length-set (st .free) l b ∙ t .long;
-      each = λ m x. elim (ℕ-discrete m l) [
-        | yes e ↦ rw (e, getD-set-same (st .free) l b 0 (omega (arith, t .long))) low
-        | no ne ↦ rw (getD-set-other (st .free) l m b 0 ne) (t .each m x)
-      ];
-    }
-
-pub changed : (st : Store) (l at b : ℕ) → length (st .free) ≡ label-room → at ≡ l → l < label-room → b ≤ 1
-    → Changed st (record { free = set (st .free) at b }) l (eqb b 1)
-changed st l at b long same h low =
-    rw same
-    (record {
-      here = rw (lt-ltb l label-room h, getD-set-same (st .free) l b 0 (omega arith));
-      others = λ m x. rw (getD-set-other (st .free) l m b 0 x);
-      tidy = set-tidy st l b h low;
-    })
-
-pub emptied : Emptied (record { free = replicate 16 1 })
-emptied =
-    record {
-      each = λ l h. rw (lt-ltb l label-room h, getD-replicate {A = ℕ} 16 l 1 0 h);
-      tidy = record { long = length-replicate {A = ℕ} 16 1; each = λ l h. rw (getD-replicate {A = ℕ} 16 l 1 0 h) (omega arith) };
-    }
-
--- two tidy stores with the same free labels are one
-pub tidy-same : (s t : Store) → Tidy s → Tidy t → ((l : Label) → is-free s l ≡ is-free t l) → s ≡ t
-tidy-same s t p q same = ap (λ (l : List ℕ). record { free = l }) (ext-getD 0 (s .free) (t .free) (p .long ∙ sym (q .long)) each)
+-- one bit was changed, and no other
+changed : (st : Store) (w l : ℕ) (b : Bool) → l < label-room → bit w l ≡ b
+    → ((m : Label) → m < label-room → m ≢ l → bit w m ≡ bit (st .free) m) → Changed st (record { free = w }) l b
+changed st w l b within here others = record { here = rw (lt-ltb l label-room within) here; others = each }
   where
-    one-byte : (x y : ℕ) → x ≤ 1 → y ≤ 1 → eqb x 1 ≡ eqb y 1 → x ≡ y
-    one-byte x y a b e =
-        elim (known (eqb x 1)) [
-          | on c ↦ eqb-true x 1 c ∙ sym (eqb-true y 1 (sym e ∙ c))
-          | off c ↦ let u = eqb-false x 1 c in let v = eqb-false y 1 (sym e ∙ c) in omega arith
-        ]
+    each : (m : Label) → m ≢ l → is-free (record { free = w }) m ≡ is-free st m
+    each m ne =
+        elim (known (ltb m label-room)) [ on c ↦ rw c (others m (ltb-true m label-room c) ne) | off c ↦ rw c ]
 
-    each : (i : ℕ) → i < length (s .free) → getD (s .free) i 0 ≡ getD (t .free) i 0
-    each i h =
-        let within : i < label-room = omega (arith, p .long) in
-        one-byte _ _ (p .each i within) (q .each i within) (rw (lt-ltb i label-room within) at (same i))
+pub taken : (st : Store) (l x : ℕ) → l < label-room → x ≡ 2 ^ l → Changed st (record { free = bitAnd (st .free) (2 ^ label-room - 1 - x) }) l false
+taken st l x within e =
+    rw e
+    (changed st _ l false within
+    (bit-cleared label-room (st .free) l l within within ∙ rw (eqb-same l) (and-false (bit (st .free) l)))
+    (λ m h ne. bit-cleared label-room (st .free) l m within h ∙ rw (ne-eqb m l ne) (and-true (bit (st .free) m))))
+
+pub given-back : (st : Store) (l x : ℕ) → l < label-room → x ≡ 2 ^ l → Changed st (record { free = bitOr (st .free) x }) l true
+given-back st l x within e =
+    rw e
+    (changed st _ l true within
+    (bit-set (st .free) l l ∙ rw (eqb-same l) (or-true (bit (st .free) l)))
+    (λ m h ne. bit-set (st .free) l m ∙ rw (ne-eqb m l ne) (or-false (bit (st .free) m))))
+
+pub emptied : Emptied (record { free = 2 ^ label-room - 1 })
+emptied = record { each = λ l h. rw (lt-ltb l label-room h) (bit-of-all label-room l h) }
+
+-- two stores with the same free labels are one: a word has nothing but its bits
+pub known-by-its-labels : (s t : Store) → s .free < 2 ^ label-room → t .free < 2 ^ label-room → ((l : Label) → is-free s l ≡ is-free t l) → s ≡ t
+known-by-its-labels s t p q same =
+    ap (λ (w : ℕ). record { free = w }) (bits-same label-room (s .free) (t .free) p q (λ l h. rw (lt-ltb l label-room h) at (same l)))
 
 -- a free label, taken apart
 pub free-within : (st : Store) (l : Label) → Free st l → l < label-room
 free-within st l h =
     elim (known (ltb l label-room)) [ on b ↦ ltb-true l label-room b | off b ↦ absurd (true≢false (sym h ∙ rw b)) ]
 
-free-byte : (st : Store) (l : Label) → Free st l → getD (st .free) l 0 ≡ 1
-free-byte st l h = eqb-true (getD (st .free) l 0) 1 (rw (lt-ltb l label-room (free-within st l h)) at h)
+free-bit : (st : Store) (l : Label) → Free st l → bit (st .free) l ≡ true
+free-bit st l h = rw (lt-ltb l label-room (free-within st l h)) at h
 
-module _ (st : Store) (i : ℕ) (none : (j : ℕ) → j < i → getD (st .free) j 0 ≡ 1 → ⊥) where
-  -- a search that has found nothing yet is not at the end
-  pub within : SomeFree st → i < label-room
-  within some =
-      elim (known (ltb i label-room)) [
-        | on b ↦ ltb-true i label-room b
-        | off b ↦ let x = ltb-false i label-room b in
-            let y = free-within st (some .label) (some .is) in
-            absurd (none (some .label) (omega arith) (free-byte st (some .label) (some .is)))
-      ]
+pub lowest : (st : Store) → SomeFree st → First (Free st) (trailingZeros label-room (st .free))
+lowest st some = record { here = rw (lt-ltb _ label-room within) (first .here); none-before = λ j x h. first .none-before j x (free-bit st j h) }
+  where
+    first : First (λ i. bit (st .free) i ≡ true) (trailingZeros label-room (st .free))
+    first = trailing-first label-room (st .free) (some .label) (free-within st (some .label) (some .is)) (free-bit st (some .label) (some .is))
 
-  pub found : SomeFree st → getD (st .free) i 0 ≡ 1 → First (Free st) i
-  found some e =
-      record { here = rw (lt-ltb i label-room (within some), e); none-before = λ j x h. none j x (free-byte st j h) }
+    not-past : ¬ (some .label < trailingZeros label-room (st .free))
+    not-past h = first .none-before (some .label) h (free-bit st (some .label) (some .is))
+
+    within : trailingZeros label-room (st .free) < label-room
+    within = omega (arith, not-past, free-within st (some .label) (some .is))

@@ -8,4 +8,5 @@ pub mod Range
 pub mod CodeLay
 pub mod CodeStore
 pub mod CodeKeep
+pub mod Zeros
 pub mod CodeLabel

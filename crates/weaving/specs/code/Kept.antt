@@ -1,7 +1,6 @@
 -- The label store in code: what it promises, and how it keeps the store of the page.
---   is-free st l      == the label l is free in the store st; Free says so as a statement
---   Tidy st           == the store st says of each label that it is free or taken, and nothing else
---   Emptied, Changed  == a tidy store with every label free, and one that differs from another in one label and is as tidy
+--   is-free st l      == the label l is free in the store st: its bit of the word is set; Free says so as a statement
+--   Emptied, Changed  == a store with every label free, and one that differs from another in one label
 --   Keeps st hs s     == the code's store st, with hs for the label of each place, plus one, keeps the page's store s
 -- Assumes nothing.
 use Prim.Native.Nat.{ℕ, suc, _+_, _≤_, _<_}
@@ -9,9 +8,10 @@ use mathlib.Core.Path.{_≡_}
 use mathlib.Core.Logic.{_≢_}
 use mathlib.Core.Bool.{Bool, true, false, _&&_}
 use mathlib.Core.List.{List}
-use lib.Dec.{eqb, ltb}
-use lib.ListN.{length, getD}
+use lib.Dec.{ltb}
+use lib.ListN.{getD}
 use Rattle.terms.specs.Terms.{Place, Label, first-label, most-labels}
+use Rattle.terms.specs.code.Bits.{bit}
 use Rattle.weaving.specs.declared.label_store.Store as coded
 use Rattle.weaving.specs.Labels.{Slot, free, held, Store, has-label, labelled, left}
 
@@ -19,16 +19,12 @@ use Rattle.weaving.specs.Labels.{Slot, free, held, Store, has-label, lab
 abbrev pub label-room : ℕ
 label-room = suc most-labels
 
+-- "one word, a bit a label": the bit l of the word, for the labels that there is room for
 abbrev pub is-free : coded.Store → Label → Bool
-is-free st l = ltb l label-room && eqb (getD (st .free) l 0) 1
+is-free st l = ltb l label-room && bit (st .free) l
 
 abbrev pub Free : coded.Store → Label → Type 0
 Free st l = is-free st l ≡ true
-
--- each label is free or taken, and the store says nothing else
-pub record Tidy (st : coded.Store) : Type 0 where
-  pub long : length (st .free) ≡ label-room
-  pub each : (l : Label) → l < label-room → getD (st .free) l 0 ≤ 1
 
 pub record SomeFree (st : coded.Store) : Type 0 where
   pub label : Label
@@ -36,13 +32,11 @@ pub record SomeFree (st : coded.Store) : Type 0 where
 
 pub record Emptied (st : coded.Store) : Type 0 where
   pub each : (l : Label) → l < label-room → Free st l
-  pub tidy : Tidy st
 
 -- the store after has the label l free or not, as told, and every other label as before
 pub record Changed (before after : coded.Store) (l : Label) (now-free : Bool) : Type 0 where
   pub here : is-free after l ≡ now-free
   pub others : (m : Label) → m ≢ l → is-free after m ≡ is-free before m
-  pub tidy : Tidy before → Tidy after
 
 abbrev pub slot-free : Slot → Bool
 slot-free free = true

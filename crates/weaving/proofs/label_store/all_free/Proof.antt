@@ -1,4 +1,4 @@
--- `all_free` writes one into each byte. Assumes nothing.
+-- `all_free` sets the bits of all sixteen labels. Assumes nothing.
 use Rattle.weaving.proofs.CodeStore.{emptied}
 use Rattle.weaving.proofs.label_store.all_free.Statement.{statement}
 use Rattle.weaving.proofs.label_store.all_free.Tie as tie

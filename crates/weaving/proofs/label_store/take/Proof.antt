@@ -1,18 +1,14 @@
--- `take` stores one byte, and no other label's byte. Assumes nothing.
-use native.Mathlib.Omega.{arith}
+-- `take` clears the bit of the label, and no other. Assumes nothing.
 use borrow.Author.Needs.{needs}
-use Rattle.weaving.proofs.CodeStore.{changed}
+use Rattle.weaving.proofs.CodeStore.{taken}
 use Rattle.weaving.proofs.label_store.take.Statement.{statement}
 use Rattle.weaving.proofs.label_store.take.Tie as tie
 
-wide-requires : tie.Need-wide-requires
-wide-requires c κs = search needs
-
-element-write-next : tie.Need-element-write-next
-element-write-next c = search needs
+bit-of-requires : tie.Need-bit-of-requires
+bit-of-requires c κs = search needs
 
 returns : tie.Need-returns
-returns c = changed (c .before .args .store) (c .before .args .label .0) _ _ (search needs) (c .wide .ensures) (c .before .pre) (omega arith)
+returns c = taken (c .before .before .args .store) (c .before .before .args .label .0) _ (c .before .before .pre) (c .before .bit-of .ensures)
 
 pub take-spec : {M : Type 1} → statement M
-take-spec = tie.close (tie.spec wide-requires element-write-next returns)
+take-spec = tie.close (tie.spec bit-of-requires returns)
