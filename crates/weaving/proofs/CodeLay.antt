@@ -1,5 +1,6 @@
 -- Laying out a held expression writes the gates of its arrangement: taken from its root down, a slot's parent has handed it its
--- first gate and its places, and the first operand's span tells where the second one's gates begin. Assumes nothing.
+-- first gate and its places, the first operand's span tells where the second one's gates begin, and the places stand at the first
+-- gate until the slot is taken, since the slots taken before it write other gates. Assumes nothing.
 use Prim.Native.Nat.{ℕ, suc, _+_, _-_, _*_, _≤_, _<_}
 use mathlib.Core.Path.{_≡_, refl, sym, ap, ap₂, _∙_, subst}
 use mathlib.Core.Bool.{Bool, true, false, true≢false}
@@ -7,7 +8,7 @@ use mathlib.Core.List.{List, [], _∷_, _++_, map, map-append}
 use native.Mathlib.Omega.{arith}
 use lib.Dec.{eqb}
 use lib.ListN.{length, getD, set, length-set, length-append, length-map}
-use lib.Seq.{sets, getD-set-same, getD-set-other}
+use lib.Seq.{sets, getD-set-same, getD-set-other, set-getD, take-set-le, drop-set-lt, length-sets, sets-eq}
 use Rattle.terms.specs.Terms.{most-literals}
 use Rattle.terms.proofs.Stores.{sets-append, sets-behind}
 use Rattle.terms.specs.declared.Primitive.{Primitive}
@@ -37,17 +38,37 @@ length-gates-from (literal x) b t f = refl
 length-gates-from (join union l r) b t f = length-append (gates-from l b _ _) _ ∙ ap₂ (_+_) (length-gates-from l b _ _) (length-gates-from r _ t f)
 length-gates-from (join intersection l r) b t f = length-append (gates-from l b _ _) _ ∙ ap₂ (_+_) (length-gates-from l b _ _) (length-gates-from r _ t f)
 
+-- after two stores, what is read where they were made
+read-last : (l : List ℕ) (a v b w : ℕ) → b < length l → getD (set (set l a v) b w) b 0 ≡ w
+read-last l a v b w within = getD-set-same (set l a v) b w 0 (rw length-set within)
+
+read-first : (l : List ℕ) (a v b w : ℕ) → a < length l → (a ≡ b → ⊥) → getD (set (set l a v) b w) a 0 ≡ v
+read-first l a v b w within differ = getD-set-other (set l a v) b a w 0 differ ∙ getD-set-same l a v 0 within
+
+-- a run leaves what stands beside it
+read-beside : (l : List ℕ) (i : ℕ) (xs : List ℕ) (j : ℕ) → ((k : ℕ) → i ≤ k → k < i + length xs → j ≡ k → ⊥) → getD (sets l i xs) j 0 ≡ getD l j 0
+read-beside l i [] j beside = refl
+read-beside l i (x ∷ xs) j beside =
+    read-beside (set l i x) (suc i) xs j (λ k low high. beside k (omega arith) (omega arith))
+    ∙ getD-set-other l i j x 0 (beside i (omega arith) (omega arith))
+
+-- a run writes over a store within it
+sets-over : (l : List ℕ) (j v i : ℕ) (xs : List ℕ) → i ≤ j → j < i + length xs → i + length xs ≤ length l → sets (set l j v) i xs ≡ sets l i xs
+sets-over l j v i xs low high room =
+    sets-eq xs (set l j v) i (rw length-set room)
+    ∙ rw (take-set-le i l j v low, drop-set-lt (i + length xs) l j v high) (sym (sets-eq xs l i room))
+
 -- one slot, by its kind
 module _ (ks ss bs : List ℕ) (i : ℕ) where
   pub slot-gate : (p : ℕ) (sense : Bool) (s : Laying) → node-kind (getD ks i 0) ≡ Literal (record { 0 = p }) sense
-      → slot-laid ks ss bs i s ≡ gate-put (getD (s .firsts) i 0) p sense (getD (s .leads-true) i 0) (getD (s .leads-false) i 0) s
+      → slot-laid ks ss bs i s ≡ gate-put (getD (s .firsts) i 0) p sense s
   unfolding slot-laid
   slot-gate p sense s h = rw h refl
 
   pub slot-operator : (k : Kind) (s : Laying) → node-kind (getD ks i 0) ≡ operator-kind k
       → slot-laid ks ss bs i s
       ≡ handed-down (operator-kind k) (operands-at ss bs i) (getD (s .firsts) i 0)
-      (place-after (getD (s .firsts) i 0) (getD ss (operands-at ss bs i .first) 0)) (getD (s .leads-true) i 0) (getD (s .leads-false) i 0) s
+      (place-after (getD (s .firsts) i 0) (getD ss (operands-at ss bs i .first) 0)) s
   unfolding slot-laid
   slot-operator union s h = rw h refl
   slot-operator intersection s h = rw h refl
@@ -81,10 +102,28 @@ gated-behind s s₁ s₂ b m gs hs e p q =
     behind : (f : Gate → ℕ) (l l₁ : List ℕ) → l₁ ≡ sets l b (map f gs) → sets l₁ m (map f hs) ≡ sets l b (map f (gs ++ hs))
     behind f l l₁ h = rw (map-append f gs hs, h, e, ← length-map gs f) (sym (sets-append l b (map f gs) (map f hs)))
 
-gated-literal : (b : ℕ) (x : formula.Literal) (t f : ℕ) (ms : List Bool) (s : Laying)
-    → Gated b s (gate-put b (x .primitive) (x .sense) t f s) (gates-from (arranged ms (literal x)) b t f)
+-- what was handed where gates are written makes no difference
+gated-over : (s s′ : Laying) (j m t f b : ℕ) (gs : List Gate) → b ≤ m → m < b + length gs → b + length gs ≤ length (s .trues) → b + length gs ≤ length (s .falses)
+    → Gated b (slot-handed j m t f s) s′ gs → Gated b s s′ gs
+gated-over s s′ j m t f b gs low high room-t room-f p =
+    record {
+      primitives = p .primitives;
+      senses = p .senses;
+      trues = p .trues ∙ over (λ g. g .true-place) (s .trues) t room-t;
+      falses = p .falses ∙ over (λ g. g .false-place) (s .falses) f room-f;
+    }
+  where
+    over : (w : Gate → ℕ) (l : List ℕ) (v : ℕ) → b + length gs ≤ length l → sets (set l m v) b (map w gs) ≡ sets l b (map w gs)
+    over w l v room = let long = length-map gs w in sets-over l m v b (map w gs) low (omega arith) (omega arith)
+
+-- a literal's places stand at its gate already
+stands : (l : List ℕ) (b t : ℕ) → getD l b 0 ≡ t → l ≡ set l b t
+stands l b t e = rw (← e) (sym (set-getD l b 0))
+
+gated-literal : (b : ℕ) (x : formula.Literal) (t f : ℕ) (ms : List Bool) (s : Laying) → getD (s .trues) b 0 ≡ t → getD (s .falses) b 0 ≡ f
+    → Gated b s (gate-put b (x .primitive) (x .sense) s) (gates-from (arranged ms (literal x)) b t f)
 unfolding arranged gates-from
-gated-literal b x t f ms s = record { primitives = refl; senses = refl; trues = refl; falses = refl }
+gated-literal b x t f ms s et ef = record { primitives = refl; senses = refl; trues = stands _ b t et; falses = stands _ b f ef }
 
 -- an operator's gates are those of its first operand and, behind them, those of its second
 gates-joined : (k : Kind) (x y : Expr) (b m t f : ℕ) → m ≡ b + literals x
@@ -112,12 +151,9 @@ module _ (k : Kind) (l r : Expr) (ls rs : List Bool) (row : length ls ≡ operat
       (gated-front s s₁ s₂ b m _ _ (rw length-gates-from (omega arith)) q p)
 
 -- what is handed down, in other words
-handed-same : (k : coded.Kind) (o o′ : Operands) (b b′ m m′ t t′ f f′ : ℕ) (s : Laying) → o ≡ o′ → b ≡ b′ → m ≡ m′ → t ≡ t′ → f ≡ f′
-    → handed-down k o b m t f s ≡ handed-down k o′ b′ m′ t′ f′ s
-handed-same k o o′ b b′ m m′ t t′ f f′ s eo eb em et ef = rw (eo, eb, em, et, ef) refl
-
-gate-same : (b b′ p : ℕ) (sense : Bool) (t t′ f f′ : ℕ) (s : Laying) → b ≡ b′ → t ≡ t′ → f ≡ f′ → gate-put b p sense t f s ≡ gate-put b′ p sense t′ f′ s
-gate-same b b′ p sense t t′ f f′ s eb et ef = rw (eb, et, ef) refl
+handed-same : (k : coded.Kind) (o o′ : Operands) (b b′ m m′ t f : ℕ) (s : Laying) → o ≡ o′ → b ≡ b′ → m ≡ m′ → getD (s .trues) b′ 0 ≡ t → getD (s .falses) b′ 0 ≡ f
+    → handed-down k o b m s ≡ slot-handed (o′ .first) b′ (first-true k m′ t) (first-false k m′ f) (slot-handed (o′ .second) m′ t f s)
+handed-same k o o′ b b′ m m′ t f s eo eb em et ef = rw (eo, eb, em, et, ef) refl
 
 -- a list that is as before in the slots below the n up to i
 record Below (xs ys : List ℕ) (i n : ℕ) : Type 0 where
@@ -144,82 +180,58 @@ record Taken (ks ss bs : List ℕ) (i : ℕ) (e : Expr) (ms : List Bool) (b t f 
   same : (top m : ℕ) → top ≡ suc i → top ≡ nodes e + m → slots-laid ks ss bs top s ≡ slots-laid ks ss bs m after
   gates : Gated b s after (gates-from (arranged ms e) b t f)
   firsts : Below (s .firsts) (after .firsts) i (nodes e)
-  leads-true : Below (s .leads-true) (after .leads-true) i (nodes e)
-  leads-false : Below (s .leads-false) (after .leads-false) i (nodes e)
 
--- a slot within, and what it was handed
-record Handed (s : Laying) (i b t f : ℕ) : Type 0 where
-  firsts-long : i < length (s .firsts)
-  trues-long : i < length (s .leads-true)
-  falses-long : i < length (s .leads-false)
+-- a slot within, what it was handed, and room for its n gates
+record Handed (s : Laying) (i n b t f : ℕ) : Type 0 where
+  long : i < length (s .firsts)
+  trues-room : b + n ≤ length (s .trues)
+  falses-room : b + n ≤ length (s .falses)
   first : getD (s .firsts) i 0 ≡ b
-  on-true : getD (s .leads-true) i 0 ≡ t
-  on-false : getD (s .leads-false) i 0 ≡ f
+  on-true : getD (s .trues) b 0 ≡ t
+  on-false : getD (s .falses) b 0 ≡ f
 
--- the two slots that an operator hands down to
-handed-first : (s : Laying) (o : Operands) (i b m t f t′ f′ : ℕ) → o .first ≤ i → i < length (s .firsts) → i < length (s .leads-true) → i < length (s .leads-false)
-    → Handed (slot-handed (o .first) b t′ f′ (slot-handed (o .second) m t f s)) (o .first) b t′ f′
-handed-first s o i b m t f t′ f′ low p q r =
-    record {
-      firsts-long = rw (length-set, length-set) (omega arith);
-      trues-long = rw (length-set, length-set) (omega arith);
-      falses-long = rw (length-set, length-set) (omega arith);
-      first = getD-set-same (set (s .firsts) (o .second) m) (o .first) b 0 (rw length-set (omega arith));
-      on-true = getD-set-same (set (s .leads-true) (o .second) t) (o .first) t′ 0 (rw length-set (omega arith));
-      on-false = getD-set-same (set (s .leads-false) (o .second) f) (o .first) f′ 0 (rw length-set (omega arith));
-    }
-
-handed-second : (s : Laying) (o : Operands) (i b m t f t′ f′ : ℕ) → o .second ≤ i → (o .second ≡ o .first → ⊥)
-    → i < length (s .firsts) → i < length (s .leads-true) → i < length (s .leads-false)
-    → Handed (slot-handed (o .first) b t′ f′ (slot-handed (o .second) m t f s)) (o .second) m t f
-handed-second s o i b m t f t′ f′ low differ p q r =
-    record {
-      firsts-long = rw (length-set, length-set) (omega arith);
-      trues-long = rw (length-set, length-set) (omega arith);
-      falses-long = rw (length-set, length-set) (omega arith);
-      first = getD-set-other (set (s .firsts) (o .second) m) (o .first) (o .second) b 0 differ ∙ getD-set-same (s .firsts) (o .second) m 0 (omega arith);
-      on-true = getD-set-other (set (s .leads-true) (o .second) t) (o .first) (o .second) t′ 0 differ ∙ getD-set-same (s .leads-true) (o .second) t 0 (omega arith);
-      on-false = getD-set-other (set (s .leads-false) (o .second) f) (o .first) (o .second) f′ 0 differ ∙ getD-set-same (s .leads-false) (o .second) f 0 (omega arith);
-    }
-
--- what a slot was handed is still there when slots above it were taken
-handed-kept : (s s′ : Laying) (j b t f i n : ℕ) → Handed s j b t f → j + n ≤ i → Below (s .firsts) (s′ .firsts) i n
-    → Below (s .leads-true) (s′ .leads-true) i n → Below (s .leads-false) (s′ .leads-false) i n → Handed s′ j b t f
-handed-kept s s′ j b t f i n h low p q r =
-    record {
-      firsts-long = rw (p .long) (h .firsts-long);
-      trues-long = rw (q .long) (h .trues-long);
-      falses-long = rw (r .long) (h .falses-long);
-      first = p .same j low ∙ h .first;
-      on-true = q .same j low ∙ h .on-true;
-      on-false = r .same j low ∙ h .on-false;
-    }
-
-module _ (ks ss bs : List ℕ) where
-  -- an operator whose right operand r stands in the slot i - 1 and whose left l below it: both taken, the operator is
-  joint-taken : (i : ℕ) (k : Kind) (l r : Expr) (ls rs : List Bool) (e : Expr) (ms : List Bool) (b t f br tr fr bl tl fl : ℕ) (s s₁ : Laying)
-      → nodes e ≡ suc (nodes l + nodes r) → nodes l + nodes r ≤ i
-      → slot-laid ks ss bs i s ≡ s₁ → Below (s .firsts) (s₁ .firsts) i (nodes e) → Below (s .leads-true) (s₁ .leads-true) i (nodes e)
-      → Below (s .leads-false) (s₁ .leads-false) i (nodes e)
-      → (tr : Taken ks ss bs (i - 1) r rs br tr fr s₁) → (tl : Taken ks ss bs (i - 1 - nodes r) l ls bl tl fl (tr .after))
-      → Gated b s (tl .after) (gates-from (arranged ms e) b t f) → Taken ks ss bs i e ms b t f s
-  unfolding slots-laid
-  joint-taken i k l r ls rs e ms b t f br tr fr bl tl fl s s₁ size fits step ff ft fe wr wl gates =
-      let some = nodes-some l in
-      let some-r = nodes-some r in
+-- the two slots that an operator hands down to, with x gates of the first one and y of the second
+module _ (s : Laying) (o : Operands) (i n b t f : ℕ) (g : Handed s i n b t f) (m x y t′ f′ : ℕ) (next : m ≡ b + x) (parts : x + y ≤ n) where
+  handed-first : 1 ≤ x → o .first ≤ i → Handed (slot-handed (o .first) b t′ f′ (slot-handed (o .second) m t f s)) (o .first) x b t′ f′
+  handed-first some low =
       record {
-        after = wl .after;
-        same = λ top m p q.
-            ap (λ (n : ℕ). slots-laid ks ss bs n s) p
-            ∙ ap (slots-laid ks ss bs i) step
-            ∙ wr .same i (suc (i - 1 - nodes r)) (omega arith) (omega arith)
-            ∙ wl .same (suc (i - 1 - nodes r)) m refl (omega arith);
-        gates = gates;
-        firsts = below-chain i (nodes e) _ _ (below-chain i (nodes e) _ _ ff (wr .firsts) (omega arith)) (wl .firsts) (omega arith);
-        leads-true = below-chain i (nodes e) _ _ (below-chain i (nodes e) _ _ ft (wr .leads-true) (omega arith)) (wl .leads-true) (omega arith);
-        leads-false = below-chain i (nodes e) _ _ (below-chain i (nodes e) _ _ fe (wr .leads-false) (omega arith)) (wl .leads-false) (omega arith);
+        long = simp length-set (omega arith);
+        trues-room = simp length-set (omega arith);
+        falses-room = simp length-set (omega arith);
+        first = read-last (s .firsts) (o .second) m (o .first) b (omega arith);
+        on-true = read-last (s .trues) m t b t′ (omega arith);
+        on-false = read-last (s .falses) m f b f′ (omega arith);
       }
 
+  handed-second : 1 ≤ x → 1 ≤ y → o .second ≤ i → (o .second ≡ o .first → ⊥)
+      → Handed (slot-handed (o .first) b t′ f′ (slot-handed (o .second) m t f s)) (o .second) y m t f
+  handed-second some some-y low differ =
+      record {
+        long = simp length-set (omega arith);
+        trues-room = simp length-set (omega arith);
+        falses-room = simp length-set (omega arith);
+        first = read-first (s .firsts) (o .second) m (o .first) b (omega arith) differ;
+        on-true = read-first (s .trues) m t b t′ (omega arith) (λ z. omega arith);
+        on-false = read-first (s .falses) m f b f′ (omega arith) (λ z. omega arith);
+      }
+
+-- what a slot was handed is still there when slots above it were taken and other gates written
+handed-kept : (s s′ : Laying) (j n b t f i size b′ : ℕ) (gs : List Gate) → Handed s j n b t f → j + size ≤ i → Below (s .firsts) (s′ .firsts) i size
+    → Gated b′ s s′ gs → ((k : ℕ) → b′ ≤ k → k < b′ + length gs → b ≡ k → ⊥) → Handed s′ j n b t f
+handed-kept s s′ j n b t f i size b′ gs h low p q beside =
+    record {
+      long = rw (p .long) (h .long);
+      trues-room = rw (q .trues, length-sets) (h .trues-room);
+      falses-room = rw (q .falses, length-sets) (h .falses-room);
+      first = p .same j low ∙ h .first;
+      on-true = rw (q .trues) (kept (λ g. g .true-place) (s .trues)) ∙ h .on-true;
+      on-false = rw (q .falses) (kept (λ g. g .false-place) (s .falses)) ∙ h .on-false;
+    }
+  where
+    kept : (w : Gate → ℕ) (l : List ℕ) → getD (sets l b′ (map w gs)) b 0 ≡ getD l b 0
+    kept w l = let long = length-map gs w in read-beside l b′ (map w gs) b (λ k lo hi. beside k lo (omega arith))
+
+module _ (ks ss bs : List ℕ) where
   -- the operands of an operator in the order of its mark
   operands-exchanged : (i n : ℕ) → getD bs i 0 ≡ 1 → getD ss (i - 1) 0 ≡ n → operands-at ss bs i ≡ record { first = i - 1; second = i - 1 - n }
   operands-exchanged i n m e = rw (m, e) refl
@@ -227,88 +239,113 @@ module _ (ks ss bs : List ℕ) where
   operands-typed : (i n : ℕ) → getD bs i 0 ≡ 0 → getD ss (i - 1) 0 ≡ n → operands-at ss bs i ≡ record { first = i - 1 - n; second = i - 1 }
   operands-typed i n m e = rw (m, e) refl
 
-  step-exchanged : (i : ℕ) (k : Kind) (r : Expr) (b t f m : ℕ) (s : Laying) → node-kind (getD ks i 0) ≡ operator-kind k → getD bs i 0 ≡ 1
-      → getD ss (i - 1) 0 ≡ nodes r → m ≡ b + literals r → Handed s i b t f
+  step-exchanged : (i : ℕ) (k : Kind) (r : Expr) (n b t f m : ℕ) (s : Laying) → node-kind (getD ks i 0) ≡ operator-kind k → getD bs i 0 ≡ 1
+      → getD ss (i - 1) 0 ≡ nodes r → m ≡ b + literals r → Handed s i n b t f
       → slot-laid ks ss bs i s
       ≡ slot-handed (i - 1) b (first-true (operator-kind k) m t) (first-false (operator-kind k) m f) (slot-handed (i - 1 - nodes r) m t f s)
-  step-exchanged i k r b t f m s kind mk span next g =
+  step-exchanged i k r n b t f m s kind mk span next g =
       let size = nodes-literals r in
       let o = operands-exchanged i (nodes r) mk span in
       let e : place-after (getD (s .firsts) i 0) (getD ss (operands-at ss bs i .first) 0) ≡ m =
       ap (λ (a : Operands). place-after (getD (s .firsts) i 0) (getD ss (a .first) 0)) o ∙ omega (arith, g .first) in
       slot-operator ks ss bs i k s kind
-      ∙ handed-same (operator-kind k) (operands-at ss bs i) (record { first = i - 1; second = i - 1 - nodes r }) _ b _ m _ t _ f s o (g .first) e (g .on-true) (g .on-false)
+      ∙ handed-same (operator-kind k) (operands-at ss bs i) (record { first = i - 1; second = i - 1 - nodes r }) _ b _ m t f s o (g .first) e (g .on-true) (g .on-false)
 
-  step-typed : (i : ℕ) (k : Kind) (l r : Expr) (b t f m : ℕ) (s : Laying) → node-kind (getD ks i 0) ≡ operator-kind k → getD bs i 0 ≡ 0
-      → getD ss (i - 1) 0 ≡ nodes r → getD ss (i - 1 - nodes r) 0 ≡ nodes l → m ≡ b + literals l → Handed s i b t f
+  step-typed : (i : ℕ) (k : Kind) (l r : Expr) (n b t f m : ℕ) (s : Laying) → node-kind (getD ks i 0) ≡ operator-kind k → getD bs i 0 ≡ 0
+      → getD ss (i - 1) 0 ≡ nodes r → getD ss (i - 1 - nodes r) 0 ≡ nodes l → m ≡ b + literals l → Handed s i n b t f
       → slot-laid ks ss bs i s
       ≡ slot-handed (i - 1 - nodes r) b (first-true (operator-kind k) m t) (first-false (operator-kind k) m f) (slot-handed (i - 1) m t f s)
-  step-typed i k l r b t f m s kind mk span span-l next g =
+  step-typed i k l r n b t f m s kind mk span span-l next g =
       let size = nodes-literals l in
       let o = operands-typed i (nodes r) mk span in
       let e : place-after (getD (s .firsts) i 0) (getD ss (operands-at ss bs i .first) 0) ≡ m =
       ap (λ (a : Operands). place-after (getD (s .firsts) i 0) (getD ss (a .first) 0)) o ∙ omega (arith, g .first) in
       slot-operator ks ss bs i k s kind
-      ∙ handed-same (operator-kind k) (operands-at ss bs i) (record { first = i - 1 - nodes r; second = i - 1 }) _ b _ m _ t _ f s o (g .first) e (g .on-true) (g .on-false)
+      ∙ handed-same (operator-kind k) (operands-at ss bs i) (record { first = i - 1 - nodes r; second = i - 1 }) _ b _ m t f s o (g .first) e (g .on-true) (g .on-false)
 
   -- an operator whose operands can be taken, whatever else the lists hold
   module _ (i : ℕ) (k : Kind) (l r : Expr) (ls rs : List Bool) (b t f : ℕ) (s : Laying) (kind : node-kind (getD ks i 0) ≡ operator-kind k)
       (fits : nodes l + nodes r ≤ i) (span-r : getD ss (i - 1) 0 ≡ nodes r) (span-l : getD ss (i - 1 - nodes r) 0 ≡ nodes l)
-      (row : length ls ≡ operators l) (g : Handed s i b t f)
-      (take-r : (b t f : ℕ) (s : Laying) → Handed s (i - 1) b t f → Taken ks ss bs (i - 1) r rs b t f s)
-      (take-l : (b t f : ℕ) (s : Laying) → Handed s (i - 1 - nodes r) b t f → Taken ks ss bs (i - 1 - nodes r) l ls b t f s) where
+      (row : length ls ≡ operators l) (g : Handed s i (literals l + literals r) b t f)
+      (take-r : (b t f : ℕ) (s : Laying) → Handed s (i - 1) (literals r) b t f → Taken ks ss bs (i - 1) r rs b t f s)
+      (take-l : (b t f : ℕ) (s : Laying) → Handed s (i - 1 - nodes r) (literals l) b t f → Taken ks ss bs (i - 1 - nodes r) l ls b t f s) where
+    -- both operands handed to, and both taken: the operator is
+    joint-taken : (ms : List Bool) (o : Operands) (m t₁ f₁ br tr fr bl tl fl : ℕ) → b ≤ m → m < b + (literals l + literals r)
+        → i ≤ nodes l + nodes r + o .first → i ≤ nodes l + nodes r + o .second
+        → slot-laid ks ss bs i s ≡ slot-handed (o .first) b t₁ f₁ (slot-handed (o .second) m t f s)
+        → (wr : Taken ks ss bs (i - 1) r rs br tr fr (slot-handed (o .first) b t₁ f₁ (slot-handed (o .second) m t f s)))
+        → (wl : Taken ks ss bs (i - 1 - nodes r) l ls bl tl fl (wr .after))
+        → Gated b (slot-handed (o .first) b t₁ f₁ (slot-handed (o .second) m t f s)) (wl .after) (gates-from (arranged ms (join k l r)) b t f)
+        → Taken ks ss bs i (join k l r) ms b t f s
+    unfolding nodes literals slots-laid
+    joint-taken ms o m t₁ f₁ br tr fr bl tl fl low high above-f above-s step wr wl gates =
+        let some-l = nodes-some l in
+        let some-r = nodes-some r in
+        let gs = gates-from (arranged ms (join k l r)) b t f in
+        let count : length gs ≡ literals l + literals r = length-gates-from (arranged ms (join k l r)) b t f ∙ literals-arranged ms (join k l r) in
+        let s₀ = slot-handed (o .second) m t f s in
+        record {
+          after = wl .after;
+          same = λ top n p q.
+              ap (λ (a : ℕ). slots-laid ks ss bs a s) p
+              ∙ ap (slots-laid ks ss bs i) step
+              ∙ wr .same i (suc (i - 1 - nodes r)) (omega arith) (omega arith)
+              ∙ wl .same (suc (i - 1 - nodes r)) n refl (omega arith);
+          gates = gated-over s (wl .after) (o .second) m t f b gs low (omega arith) (omega arith) (omega arith)
+              (gated-over s₀ (wl .after) (o .first) b t₁ f₁ b gs (omega arith) (omega arith) (simp length-set (omega arith)) (simp length-set (omega arith)) gates);
+          firsts = below-chain i (nodes (join k l r)) _ _
+              (below-chain i (nodes (join k l r)) _ _ (below-stores _ _ _ _ _ _ _ (omega arith) (omega arith)) (wr .firsts) (omega arith)) (wl .firsts) (omega arith);
+        }
+
     exchanged-taken : (m t₁ f₁ : ℕ) → m ≡ b + literals r → t₁ ≡ first-true (operator-kind k) m t → f₁ ≡ first-false (operator-kind k) m f
         → getD bs i 0 ≡ 1 → Taken ks ss bs i (join k l r) (true ∷ (ls ++ rs)) b t f s
-    unfolding nodes
     exchanged-taken m t₁ f₁ next et ef mk =
         let some-l = nodes-some l in
         let some-r = nodes-some r in
+        let gates-l = literals-some l in
+        let gates-r = literals-some r in
         let o : Operands = record { first = i - 1; second = i - 1 - nodes r } in
         let s₁ : Laying = slot-handed (i - 1) b t₁ f₁ (slot-handed (i - 1 - nodes r) m t f s) in
-        let wr = take-r b t₁ f₁ s₁ (handed-first s o i b m t f t₁ f₁ (omega arith) (g .firsts-long) (g .trues-long) (g .falses-long)) in
+        let wr = take-r b t₁ f₁ s₁ (handed-first s o i _ b t f g m (literals r) (literals l) t₁ f₁ next (omega arith) (omega arith) (omega arith)) in
+        let count = length-gates-from (arranged rs r) b t₁ f₁ ∙ literals-arranged rs r in
         let wl = take-l m t f (wr .after)
-        (handed-kept s₁ (wr .after) (i - 1 - nodes r) m t f (i - 1) (nodes r)
-        (handed-second s o i b m t f t₁ f₁ (omega arith) (λ z. omega arith) (g .firsts-long) (g .trues-long) (g .falses-long))
-        (omega arith) (wr .firsts) (wr .leads-true) (wr .leads-false)) in
-        joint-taken i k l r ls rs (join k l r) (true ∷ (ls ++ rs)) b t f b t₁ f₁ m t f s s₁ refl fits
-        (rw (et, ef) (step-exchanged i k r b t f m s kind mk span-r next g))
-        (below-stores _ _ _ _ _ _ _ (omega arith) (omega arith)) (below-stores _ _ _ _ _ _ _ (omega arith) (omega arith))
-        (below-stores _ _ _ _ _ _ _ (omega arith) (omega arith)) wr wl
-        (gated-exchanged k l r ls rs row b m t f t₁ f₁ next et ef s (wr .after) (wl .after) (wr .gates) (wl .gates))
+        (handed-kept s₁ (wr .after) (i - 1 - nodes r) (literals l) m t f (i - 1) (nodes r) b _
+        (handed-second s o i _ b t f g m (literals r) (literals l) t₁ f₁ next (omega arith) (omega arith) (omega arith) (omega arith) (λ z. omega arith))
+        (omega arith) (wr .firsts) (wr .gates) (λ j low high z. omega arith)) in
+        joint-taken (true ∷ (ls ++ rs)) o m t₁ f₁ b t₁ f₁ m t f (omega arith) (omega arith) (omega arith) (omega arith)
+        (rw (et, ef) (step-exchanged i k r _ b t f m s kind mk span-r next g)) wr wl
+        (gated-exchanged k l r ls rs row b m t f t₁ f₁ next et ef s₁ (wr .after) (wl .after) (wr .gates) (wl .gates))
 
     typed-taken : (m t₁ f₁ : ℕ) → m ≡ b + literals l → t₁ ≡ first-true (operator-kind k) m t → f₁ ≡ first-false (operator-kind k) m f
         → getD bs i 0 ≡ 0 → Taken ks ss bs i (join k l r) (false ∷ (ls ++ rs)) b t f s
-    unfolding nodes
     typed-taken m t₁ f₁ next et ef mk =
         let some-l = nodes-some l in
         let some-r = nodes-some r in
+        let gates-l = literals-some l in
+        let gates-r = literals-some r in
         let o : Operands = record { first = i - 1 - nodes r; second = i - 1 } in
         let s₁ : Laying = slot-handed (i - 1 - nodes r) b t₁ f₁ (slot-handed (i - 1) m t f s) in
-        let wr = take-r m t f s₁ (handed-second s o i b m t f t₁ f₁ (omega arith) (λ z. omega arith) (g .firsts-long) (g .trues-long) (g .falses-long)) in
+        let wr = take-r m t f s₁ (handed-second s o i _ b t f g m (literals l) (literals r) t₁ f₁ next (omega arith) (omega arith) (omega arith) (omega arith) (λ z. omega arith)) in
         let wl = take-l b t₁ f₁ (wr .after)
-        (handed-kept s₁ (wr .after) (i - 1 - nodes r) b t₁ f₁ (i - 1) (nodes r)
-        (handed-first s o i b m t f t₁ f₁ (omega arith) (g .firsts-long) (g .trues-long) (g .falses-long))
-        (omega arith) (wr .firsts) (wr .leads-true) (wr .leads-false)) in
-        joint-taken i k l r ls rs (join k l r) (false ∷ (ls ++ rs)) b t f m t f b t₁ f₁ s s₁ refl fits
-        (rw (et, ef) (step-typed i k l r b t f m s kind mk span-r span-l next g))
-        (below-stores _ _ _ _ _ _ _ (omega arith) (omega arith)) (below-stores _ _ _ _ _ _ _ (omega arith) (omega arith))
-        (below-stores _ _ _ _ _ _ _ (omega arith) (omega arith)) wr wl
-        (gated-typed k l r ls rs row b m t f t₁ f₁ next et ef s (wr .after) (wl .after) (wr .gates) (wl .gates))
+        (handed-kept s₁ (wr .after) (i - 1 - nodes r) (literals l) b t₁ f₁ (i - 1) (nodes r) m _
+        (handed-first s o i _ b t f g m (literals l) (literals r) t₁ f₁ next (omega arith) (omega arith) (omega arith))
+        (omega arith) (wr .firsts) (wr .gates) (λ j low high z. omega arith)) in
+        joint-taken (false ∷ (ls ++ rs)) o m t₁ f₁ m t f b t₁ f₁ (omega arith) (omega arith) (omega arith) (omega arith)
+        (rw (et, ef) (step-typed i k l r _ b t f m s kind mk span-r span-l next g)) wr wl
+        (gated-typed k l r ls rs row b m t f t₁ f₁ next et ef s₁ (wr .after) (wl .after) (wr .gates) (wl .gates))
 
-  taken : (i : ℕ) (e : Expr) (ms : List Bool) (b t f : ℕ) (s : Laying) → Holds ks ss i e → Marked bs i e ms → Handed s i b t f
+  taken : (i : ℕ) (e : Expr) (ms : List Bool) (b t f : ℕ) (s : Laying) → Holds ks ss i e → Marked bs i e ms → Handed s i (literals e) b t f
       → Taken ks ss bs i e ms b t f s
-  unfolding nodes slots-laid
+  unfolding nodes literals slots-laid
   taken i (literal x) ms b t f s (held.leaf h) m g =
       record {
-        after = gate-put b (x .primitive) (x .sense) t f s;
+        after = gate-put b (x .primitive) (x .sense) s;
         same = λ top n p q.
             ap (λ (a : ℕ). slots-laid ks ss bs a s) p
-            ∙ ap (slots-laid ks ss bs i) (slot-gate ks ss bs i (x .primitive) (x .sense) s (h .kind) ∙ gate-same _ b (x .primitive) (x .sense) _ t _ f s (g .first) (g .on-true) (g .on-false))
-            ∙ (let z : i ≡ n = omega arith in ap (λ (a : ℕ). slots-laid ks ss bs a (gate-put b (x .primitive) (x .sense) t f s)) z);
-        gates = gated-literal b x t f ms s;
+            ∙ ap (slots-laid ks ss bs i) (slot-gate ks ss bs i (x .primitive) (x .sense) s (h .kind) ∙ ap (λ (a : ℕ). gate-put a (x .primitive) (x .sense) s) (g .first))
+            ∙ (let z : i ≡ n = omega arith in ap (λ (a : ℕ). slots-laid ks ss bs a (gate-put b (x .primitive) (x .sense) s)) z);
+        gates = gated-literal b x t f ms s (g .on-true) (g .on-false);
         firsts = below-refl _ _ _;
-        leads-true = below-refl _ _ _;
-        leads-false = below-refl _ _ _;
       }
   taken i (join k l r) ms b t f s (held.joint h p q) (marked.joint {m = true} {ls = ls} {rs = rs} mk a c) g =
       exchanged-taken i k l r ls rs b t f s (h .kind) (h .fits) (holds-span q) (holds-span p) (marked-length a) g
@@ -431,16 +468,16 @@ pending-step ks ss bs i s (more {i = j} {rest = rest} {e = join k l r} p q (held
     (elim (known (eqb (getD bs i 0) 1)) [
       | on x ↦ rw (x, span-r)
           (let gs = set (s .firsts) (i - 1 - nodes r) (place-after b (nodes r)) in
-          let here : getD (set gs (i - 1) b) (i - 1) 0 ≡ b = getD-set-same gs (i - 1) b 0 (rw length-set (omega arith)) in
+          let here : getD (set gs (i - 1) b) (i - 1) 0 ≡ b = read-last (s .firsts) _ _ (i - 1) b (omega arith) in
           let there : getD (set gs (i - 1) b) (i - 1 - nodes r) 0 ≡ place-after b (nodes r) =
-          getD-set-other gs (i - 1) (i - 1 - nodes r) b 0 (λ e. omega arith) ∙ getD-set-same (s .firsts) (i - 1 - nodes r) (place-after b (nodes r)) 0 (omega arith) in
+          read-first (s .firsts) _ _ (i - 1) b (omega arith) (λ e. omega arith) in
           pending-joint ks ss (s .firsts) (set gs (i - 1) b) i rest l r (length-set gs _ b ∙ length-set (s .firsts) _ _) (omega arith) (omega arith) left right (omega arith) (omega arith)
           (λ u v. getD-set-other gs (i - 1) u b 0 (λ e. omega arith) ∙ getD-set-other (s .firsts) (i - 1 - nodes r) u (place-after b (nodes r)) 0 (λ e. omega arith)) w)
       | off x ↦ rw (x, span-r, span-l)
           (let gs = set (s .firsts) (i - 1) (place-after b (nodes l)) in
-          let here : getD (set gs (i - 1 - nodes r) b) (i - 1 - nodes r) 0 ≡ b = getD-set-same gs (i - 1 - nodes r) b 0 (rw length-set (omega arith)) in
+          let here : getD (set gs (i - 1 - nodes r) b) (i - 1 - nodes r) 0 ≡ b = read-last (s .firsts) _ _ (i - 1 - nodes r) b (omega arith) in
           let there : getD (set gs (i - 1 - nodes r) b) (i - 1) 0 ≡ place-after b (nodes l) =
-          getD-set-other gs (i - 1 - nodes r) (i - 1) b 0 (λ e. omega arith) ∙ getD-set-same (s .firsts) (i - 1) (place-after b (nodes l)) 0 (omega arith) in
+          read-first (s .firsts) _ _ (i - 1 - nodes r) b (omega arith) (λ e. omega arith) in
           pending-joint ks ss (s .firsts) (set gs (i - 1 - nodes r) b) i rest l r (length-set gs _ b ∙ length-set (s .firsts) _ _) (omega arith) (omega arith) left right (omega arith) (omega arith)
           (λ u v. getD-set-other gs (i - 1 - nodes r) u b 0 (λ e. omega arith) ∙ getD-set-other (s .firsts) (i - 1) u (place-after b (nodes l)) 0 (λ e. omega arith)) w)
     ])
@@ -470,9 +507,14 @@ onward-end ks ss bs n before s m low w = let z : 0 ≡ m = omega arith in ap (λ
 pub layable-some : {ks ss bs : List ℕ} {n : ℕ} → Layable ks ss bs n → 1 ≤ n
 layable-some y = omega (arith, literals-some (y .tree), y .count)
 
+-- a slot handed to
+handed-to : {j b t f : ℕ} {gs ts fs gs′ ts′ fs′ : List ℕ} (ps qs : List ℕ) → HandedTo j b t f gs ts fs gs′ ts′ fs′
+    → laying gs′ ps qs ts′ fs′ ≡ slot-handed j b t f (laying gs ps qs ts fs)
+handed-to ps qs h = rw (h .first, h .true-place, h .false-place) refl
+
 -- the root handed its part
-pub pending-start : {ks ss bs gs us vs gs′ us′ vs′ : List ℕ} {n count t f : ℕ} → Layable ks ss bs n → length gs ≡ 2047 → count ≡ 2 * n - 1
-    → HandedTo (2 * n - 2) 0 t f gs us vs gs′ us′ vs′ → Pending ks ss gs′ count
+pub pending-start : {ks ss bs gs ts fs gs′ ts′ fs′ : List ℕ} {n count t f : ℕ} → Layable ks ss bs n → length gs ≡ 2047 → count ≡ 2 * n - 1
+    → HandedTo (2 * n - 2) 0 t f gs ts fs gs′ ts′ fs′ → Pending ks ss gs′ count
 pending-start {gs = gs} {gs′ = gs′} {n = n} {count = count} y long is h =
     let literal-count = y .count in
     let size = nodes-literals (y .tree) in
@@ -483,29 +525,34 @@ pending-start {gs = gs} {gs′ = gs′} {n = n} {count = count} y long is h =
     more {m = count} {i = 2 * n - 2} {rest = 0} {e = y .tree} (omega arith) (omega arith) (y .holds) (omega arith) (omega arith) none
 
 -- all slots taken, the gates of the arrangement are written
-pub all-laid : {ks ss bs gs us vs gs₁ us₁ vs₁ gs₂ us₂ vs₂ ps qs ts fs ps₂ qs₂ ts₂ fs₂ : List ℕ} {n count f : ℕ} → n ≤ most-literals
-    → length gs ≡ 2047 → length us ≡ 2047 → length vs ≡ 2047 → count ≡ 2 * n - 1 → f ≡ suc n → HandedTo (2 * n - 2) 0 n f gs us vs gs₁ us₁ vs₁
-    → laying gs₂ us₂ vs₂ ps₂ qs₂ ts₂ fs₂ ≡ slots-laid ks ss bs count (laying gs₁ us₁ vs₁ ps qs ts fs)
+pub all-laid : {ks ss bs gs gs₁ gs₂ ps qs ts fs ts₁ fs₁ ps₂ qs₂ ts₂ fs₂ : List ℕ} {n count f : ℕ} → n ≤ most-literals
+    → length gs ≡ 2047 → length ts ≡ most-literals → length fs ≡ most-literals → count ≡ 2 * n - 1 → f ≡ suc n
+    → HandedTo (2 * n - 2) 0 n f gs ts fs gs₁ ts₁ fs₁
+    → laying gs₂ ps₂ qs₂ ts₂ fs₂ ≡ slots-laid ks ss bs count (laying gs₁ ps qs ts₁ fs₁)
     → LaidOut ks ss bs n ps qs ts fs ps₂ qs₂ ts₂ fs₂
 unfolding slots-laid
-all-laid {ks} {ss} {bs} {gs} {us} {vs} {gs₁} {us₁} {vs₁} {gs₂} {us₂} {vs₂} {ps} {qs} {ts} {fs} {ps₂} {qs₂} {ts₂} {fs₂} {n} {count} {f} few lg lu lv c last h is =
+all-laid {ks} {ss} {bs} {gs} {gs₁} {gs₂} {ps} {qs} {ts} {fs} {ts₁} {fs₁} {ps₂} {qs₂} {ts₂} {fs₂} {n} {count} {f} few lg lt lf c last h is =
     record { each = go }
   where
+    s : Laying
+    s = laying gs ps qs ts fs
+
     s₁ : Laying
-    s₁ = laying gs₁ us₁ vs₁ ps qs ts fs
+    s₁ = slot-handed (2 * n - 2) 0 n (suc n) s
 
     s₂ : Laying
-    s₂ = laying gs₂ us₂ vs₂ ps₂ qs₂ ts₂ fs₂
+    s₂ = laying gs₂ ps₂ qs₂ ts₂ fs₂
 
-    root : 1 ≤ n → Handed s₁ (2 * n - 2) 0 n (suc n)
-    root some =
+    root : (e : Expr) → literals e ≡ n → Handed s₁ (2 * n - 2) (literals e) 0 n (suc n)
+    root e total =
+        let some = literals-some e in
         record {
-          firsts-long = rw (h .first, length-set gs (2 * n - 2) 0) (omega arith);
-          trues-long = rw (h .leads-true, length-set us (2 * n - 2) n) (omega arith);
-          falses-long = rw (h .leads-false, length-set vs (2 * n - 2) f) (omega arith);
-          first = ap (λ (l : List ℕ). getD l (2 * n - 2) 0) (h .first) ∙ getD-set-same gs (2 * n - 2) 0 0 (omega arith);
-          on-true = ap (λ (l : List ℕ). getD l (2 * n - 2) 0) (h .leads-true) ∙ getD-set-same us (2 * n - 2) n 0 (omega arith);
-          on-false = ap (λ (l : List ℕ). getD l (2 * n - 2) 0) (h .leads-false) ∙ getD-set-same vs (2 * n - 2) f 0 (omega arith) ∙ last;
+          long = simp length-set (omega arith);
+          trues-room = simp length-set (omega arith);
+          falses-room = simp length-set (omega arith);
+          first = getD-set-same gs (2 * n - 2) 0 0 (omega arith);
+          on-true = getD-set-same ts 0 n 0 (omega arith);
+          on-false = getD-set-same fs 0 (suc n) 0 (omega arith);
         }
 
     go : (e : Expr) (ms : List Bool) → Holds ks ss (2 * n - 2) e → Marked bs (2 * n - 2) e ms → literals e ≡ n
@@ -513,19 +560,24 @@ all-laid {ks} {ss} {bs} {gs} {us} {vs} {gs₁} {us₁} {vs₁} {gs₂} {us₂} {
     go e ms holds marked total =
         let size = nodes-literals e in
         let some = literals-some e in
-        let w = taken ks ss bs (2 * n - 2) e ms 0 n (suc n) s₁ holds marked (root (omega arith)) in
-        let all : w .after ≡ s₂ = sym (is ∙ w .same count 0 (omega arith) (omega arith)) in
-        let told : gates-from (arranged ms e) 0 n (suc n) ≡ gates (arranged ms e) =
-        sym (gates-told (arranged ms e) ∙ ap (λ (a : ℕ). gates-from (arranged ms e) 0 a (suc a)) (literals-arranged ms e ∙ total)) in
-        subst (λ (gs : List Gate). Gated 0 s₁ s₂ gs) told (subst (λ (s : Laying). Gated 0 s₁ s (gates-from (arranged ms e) 0 n (suc n))) all (w .gates))
+        let w = taken ks ss bs (2 * n - 2) e ms 0 n (suc n) s₁ holds marked (root e total) in
+        let from : s₂ ≡ slots-laid ks ss bs count s₁ = is ∙ ap (slots-laid ks ss bs count) (handed-to ps qs (rw last at h)) in
+        let all : w .after ≡ s₂ = sym (from ∙ w .same count 0 (omega arith) (omega arith)) in
+        let same = literals-arranged ms e in
+        let told : gates (arranged ms e) ≡ gates-from (arranged ms e) 0 n (suc n) =
+        gates-told (arranged ms e) ∙ ap (λ (a : ℕ). gates-from (arranged ms e) 0 a (suc a)) (same ∙ total) in
+        let long = length-gates-from (arranged ms e) 0 n (suc n) in
+        rw told
+        (gated-over s s₂ (2 * n - 2) 0 n (suc n) 0 _ (omega arith) (omega arith) (omega arith) (omega arith)
+        (subst (λ (a : Laying). Gated 0 s₁ a (gates-from (arranged ms e) 0 n (suc n))) all (w .gates)))
 
--- both operands handed to in turn
-pub handed-both : {k : coded.Kind} {o : Operands} {ss : List ℕ} {b t f m t₁ f₁ : ℕ} {gs us vs gs₁ us₁ vs₁ gs₂ us₂ vs₂ : List ℕ}
-    → m ≡ place-after b (getD ss (o .first) 0) → t₁ ≡ first-true k m t → f₁ ≡ first-false k m f
-    → HandedTo (o .second) m t f gs us vs gs₁ us₁ vs₁ → HandedTo (o .first) b t₁ f₁ gs₁ us₁ vs₁ gs₂ us₂ vs₂
-    → HandedDown k o ss b t f gs us vs gs₂ us₂ vs₂
-handed-both em et ef p q =
-    record { each = λ ps qs ts fs. rw (q .first, q .leads-true, q .leads-false, p .first, p .leads-true, p .leads-false, et, ef, em) refl }
+-- both operands handed to in turn, by what stands at the first gate
+pub handed-both : {k : coded.Kind} {o : Operands} {ss : List ℕ} {b g m t₁ f₁ : ℕ} {gs ts fs gs₁ ts₁ fs₁ gs₂ ts₂ fs₂ : List ℕ}
+    → g ≡ b → m ≡ place-after b (getD ss (o .first) 0) → t₁ ≡ first-true k m (getD ts g 0) → f₁ ≡ first-false k m (getD fs g 0)
+    → HandedTo (o .second) m (getD ts g 0) (getD fs g 0) gs ts fs gs₁ ts₁ fs₁ → HandedTo (o .first) b t₁ f₁ gs₁ ts₁ fs₁ gs₂ ts₂ fs₂
+    → HandedDown k o ss b gs ts fs gs₂ ts₂ fs₂
+handed-both eg em et ef p q =
+    record { each = λ ps qs. handed-to ps qs q ∙ ap (slot-handed _ _ _ _) (handed-to ps qs p) ∙ rw (et, ef, eg, em) refl }
 
 -- the arms of one slot
 module _ (ks ss bs : List ℕ) (i : ℕ) (node : Node) (is : node ≡ node-at ks ss i) (o : Operands)
@@ -536,16 +588,16 @@ module _ (ks ss bs : List ℕ) (i : ℕ) (node : Node) (is : node ≡ node-at ks
   pub operating : {gs : List ℕ} (k : Kind) → node .kind ≡ operator-kind k → length ss ≡ 2047 → Pending ks ss gs (suc i) → Operating o ss (getD gs i 0)
   operating k kind long w = rw ordered-at (pending-operating bs k long (sym (ap (λ (n : Node). n .kind) is) ∙ kind) w)
 
-  pub operator-laid : {gs us vs ps qs ts fs : List ℕ} (k : Kind) {kind : coded.Kind} {gs′ us′ vs′ : List ℕ} → kind ≡ operator-kind k → node .kind ≡ kind
-      → HandedDown kind o ss (getD gs i 0) (getD us i 0) (getD vs i 0) gs us vs gs′ us′ vs′
-      → laying gs′ us′ vs′ ps qs ts fs ≡ slot-laid ks ss bs i (laying gs us vs ps qs ts fs)
-  operator-laid {gs} {us} {vs} {ps} {qs} {ts} {fs} k {kind} as-told node-is h =
-      h .each ps qs ts fs
-      ∙ rw (as-told, ordered-at) (sym (slot-operator ks ss bs i k (laying gs us vs ps qs ts fs) (sym (ap (λ (n : Node). n .kind) is) ∙ node-is ∙ as-told)))
+  pub operator-laid : {gs ps qs ts fs : List ℕ} (k : Kind) {kind : coded.Kind} {gs′ ts′ fs′ : List ℕ} → kind ≡ operator-kind k → node .kind ≡ kind
+      → HandedDown kind o ss (getD gs i 0) gs ts fs gs′ ts′ fs′
+      → laying gs′ ps qs ts′ fs′ ≡ slot-laid ks ss bs i (laying gs ps qs ts fs)
+  operator-laid {gs} {ps} {qs} {ts} {fs} k {kind} as-told node-is h =
+      h .each ps qs
+      ∙ rw (as-told, ordered-at) (sym (slot-operator ks ss bs i k (laying gs ps qs ts fs) (sym (ap (λ (n : Node). n .kind) is) ∙ node-is ∙ as-told)))
 
-  pub literal-laid : {gs us vs ps qs ts fs : List ℕ} {p : Primitive} {sense : Bool} {ps′ qs′ ts′ fs′ : List ℕ} → node .kind ≡ Literal p sense
-      → GateLaid (getD gs i 0) (p .0) sense (getD us i 0) (getD vs i 0) ps qs ts fs ps′ qs′ ts′ fs′
-      → laying gs us vs ps′ qs′ ts′ fs′ ≡ slot-laid ks ss bs i (laying gs us vs ps qs ts fs)
-  literal-laid {gs} {us} {vs} {ps} {qs} {ts} {fs} {p} {sense} node-is h =
-      rw (h .primitive, h .sense-put, h .true-place, h .false-place)
-      (sym (slot-gate ks ss bs i (p .0) sense (laying gs us vs ps qs ts fs) (sym (ap (λ (n : Node). n .kind) is) ∙ node-is)))
+  pub literal-laid : {gs ps qs ts fs : List ℕ} {p : Primitive} {sense : Bool} {ps′ qs′ : List ℕ} → node .kind ≡ Literal p sense
+      → GateLaid (getD gs i 0) (p .0) sense ps qs ps′ qs′
+      → laying gs ps′ qs′ ts fs ≡ slot-laid ks ss bs i (laying gs ps qs ts fs)
+  literal-laid {gs} {ps} {qs} {ts} {fs} {p} {sense} node-is h =
+      rw (h .primitive, h .sense-put)
+      (sym (slot-gate ks ss bs i (p .0) sense (laying gs ps qs ts fs) (sym (ap (λ (n : Node). n .kind) is) ∙ node-is)))

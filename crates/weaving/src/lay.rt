@@ -1,10 +1,12 @@
 // The gates of a held expression as its marks arrange it, written out with their places. No recursion: the slots are taken from the
-// root down, so that an operator comes before its operands and has handed them their first gate and their places.
+// root down, so that an operator comes before its operands and has handed them their first gate and their places. No two of the
+// operands that wait share a gate, so where one leads as a whole stands in the gates' own lists, at its first gate.
 use formula::Kind;
 use terms::Place;
 use terms::Primitive;
 ghost use mathlib.Core.Path.{_≡_};
 ghost use Prim.Native.Nat.{suc, _+_, _*_, _/_, _≤_, _<_};
+ghost use lib.ListN.{length};
 ghost use Rattle.terms.specs.Terms.{most-literals};
 ghost use Rattle.weaving.specs.code.Laid.{laying, GateLaid, HandedTo, HandedDown, slot-laid, slots-laid, sense-byte, in-order-of, first-true, first-false, Pending, Operating, Layable, LaidOut};
 
@@ -77,122 +79,97 @@ fn sense_byte(sense: bool) -> u8
     if sense { 1 } else { 0 }
 }
 
-// One gate: what its literal carries, and its two places.
+// One gate: what its literal carries. Its two places stand there already, as they were handed down.
 fn lay_gate(
     b: Place,
     primitive: Primitive,
     sense: bool,
-    t: Place,
-    f: Place,
     primitives: &mut [u16; 1024],
     senses: &mut [u8; 1024],
-    trues: &mut [u16; 1024],
-    falses: &mut [u16; 1024],
 )
     requires { ⌜ b .0 < most-literals ⌝ }
-    ensures { λ _. ⌜ GateLaid (b .0) (primitive .0) sense (t .0) (f .0) (now (primitives .entry)) (now (senses .entry)) (now (trues .entry)) (now (falses .entry)) (now (primitives .exit)) (now (senses .exit)) (now (trues .exit)) (now (falses .exit)) ⌝ }
+    ensures { λ _. ⌜ GateLaid (b .0) (primitive .0) sense (now (primitives .entry)) (now (senses .entry)) (now (primitives .exit)) (now (senses .exit)) ⌝ }
 {
     let at = wide(b);
     primitives[at] = primitive.0;
     senses[at] = sense_byte(sense);
-    trues[at] = t.0;
-    falses[at] = f.0;
 }
 
-// Hands the operand in the slot `at` its first gate, and where it leads as a whole.
+// Hands the operand in the slot `at` its first gate b, and writes there where it leads as a whole, if true and if false.
 fn hand(
     at: usize,
     b: Place,
     t: Place,
     f: Place,
     firsts: &mut [u16; 2047],
-    leads_true: &mut [u16; 2047],
-    leads_false: &mut [u16; 2047],
+    trues: &mut [u16],
+    falses: &mut [u16],
 )
     requires { ⌜ at < 2047 ⌝ }
-    ensures { λ _. ⌜ HandedTo at (b .0) (t .0) (f .0) (now (firsts .entry)) (now («leads_true» .entry)) (now («leads_false» .entry)) (now (firsts .exit)) (now («leads_true» .exit)) (now («leads_false» .exit)) ⌝ }
+    requires { ⌜ b .0 < length (now trues) ⌝ }
+    requires { ⌜ b .0 < length (now falses) ⌝ }
+    ensures { λ _. ⌜ HandedTo at (b .0) (t .0) (f .0) (now (firsts .entry)) (now (trues .entry)) (now (falses .entry)) (now (firsts .exit)) (now (trues .exit)) (now (falses .exit)) ⌝ }
 {
     firsts[at] = b.0;
-    leads_true[at] = t.0;
-    leads_false[at] = f.0;
+    let gate = wide(b);
+    trues[gate] = t.0;
+    falses[gate] = f.0;
 }
 
-// An operator whose first gate is b hands both operands their part; the first one's gates come first.
+// An operator whose first gate is b reads there where it leads as a whole, and hands both operands their part. The first one's
+// gates come first, so that b is handed on to it.
 fn lay_operator(
     kind: Kind,
     operands: Operands,
     spans: &[u16; 2047],
     b: Place,
-    t: Place,
-    f: Place,
     firsts: &mut [u16; 2047],
-    leads_true: &mut [u16; 2047],
-    leads_false: &mut [u16; 2047],
+    trues: &mut [u16; 1024],
+    falses: &mut [u16; 1024],
 )
     requires { ⌜ Operating operands (now spans) (b .0) ⌝ }
-    ensures { λ _. ⌜ HandedDown kind operands (now (spans .entry)) (b .0) (t .0) (f .0) (now (firsts .entry)) (now («leads_true» .entry)) (now («leads_false» .entry)) (now (firsts .exit)) (now («leads_true» .exit)) (now («leads_false» .exit)) ⌝ }
+    ensures { λ _. ⌜ HandedDown kind operands (now (spans .entry)) (b .0) (now (firsts .entry)) (now (trues .entry)) (now (falses .entry)) (now (firsts .exit)) (now (trues .exit)) (now (falses .exit)) ⌝ }
 {
+    let gate = wide(b);
+    let t = Place(trues[gate]);
+    let f = Place(falses[gate]);
     let first = operands.first;
     let second = operands.second;
     let next = after(b, spans[first]);
-    hand(second, next, t, f, firsts, leads_true, leads_false);
+    hand(second, next, t, f, firsts, trues, falses);
     let on_true = first_true(kind, next, t);
     let on_false = first_false(kind, next, f);
-    hand(first, b, on_true, on_false, firsts, leads_true, leads_false);
+    hand(first, b, on_true, on_false, firsts, trues, falses);
 }
 
-// The slot i: a literal is a gate, and an operator hands down.
+// The slot i: a literal is a gate, with the places that it was handed, and an operator hands down.
 fn lay_slot(
     kinds: &[u16; 2047],
     spans: &[u16; 2047],
     marks: &[u8; 2047],
     i: usize,
     firsts: &mut [u16; 2047],
-    leads_true: &mut [u16; 2047],
-    leads_false: &mut [u16; 2047],
     primitives: &mut [u16; 1024],
     senses: &mut [u8; 1024],
     trues: &mut [u16; 1024],
     falses: &mut [u16; 1024],
 )
     requires { ⌜ Pending (now kinds) (now spans) (now firsts) (suc i) ⌝ }
-    ensures { λ _. ⌜ laying (now (firsts .exit)) (now («leads_true» .exit)) (now («leads_false» .exit)) (now (primitives .exit)) (now (senses .exit)) (now (trues .exit)) (now (falses .exit)) ≡ slot-laid (now (kinds .entry)) (now (spans .entry)) (now (marks .entry)) i (laying (now (firsts .entry)) (now («leads_true» .entry)) (now («leads_false» .entry)) (now (primitives .entry)) (now (senses .entry)) (now (trues .entry)) (now (falses .entry))) ⌝ }
+    ensures { λ _. ⌜ laying (now (firsts .exit)) (now (primitives .exit)) (now (senses .exit)) (now (trues .exit)) (now (falses .exit)) ≡ slot-laid (now (kinds .entry)) (now (spans .entry)) (now (marks .entry)) i (laying (now (firsts .entry)) (now (primitives .entry)) (now (senses .entry)) (now (trues .entry)) (now (falses .entry))) ⌝ }
 {
     let node = formula::node_at(kinds, spans, i);
     let operands = in_order(marks[i], node.left, node.right);
     let b = Place(firsts[i]);
-    let t = Place(leads_true[i]);
-    let f = Place(leads_false[i]);
     let kind = node.kind;
     match kind {
         Kind::Union => {
-            lay_operator(
-                kind,
-                operands,
-                spans,
-                b,
-                t,
-                f,
-                firsts,
-                leads_true,
-                leads_false,
-            );
+            lay_operator(kind, operands, spans, b, firsts, trues, falses);
         }
         Kind::Intersection => {
-            lay_operator(
-                kind,
-                operands,
-                spans,
-                b,
-                t,
-                f,
-                firsts,
-                leads_true,
-                leads_false,
-            );
+            lay_operator(kind, operands, spans, b, firsts, trues, falses);
         }
         Kind::Literal { primitive, sense } => {
-            lay_gate(b, primitive, sense, t, f, primitives, senses, trues, falses);
+            lay_gate(b, primitive, sense, primitives, senses);
         }
     }
 }
@@ -204,15 +181,13 @@ fn lay_slots(
     marks: &[u8; 2047],
     count: usize,
     firsts: &mut [u16; 2047],
-    leads_true: &mut [u16; 2047],
-    leads_false: &mut [u16; 2047],
     primitives: &mut [u16; 1024],
     senses: &mut [u8; 1024],
     trues: &mut [u16; 1024],
     falses: &mut [u16; 1024],
 )
     requires { ⌜ Pending (now kinds) (now spans) (now firsts) count ⌝ }
-    ensures { λ _. ⌜ laying (now (firsts .exit)) (now («leads_true» .exit)) (now («leads_false» .exit)) (now (primitives .exit)) (now (senses .exit)) (now (trues .exit)) (now (falses .exit)) ≡ slots-laid (now (kinds .entry)) (now (spans .entry)) (now (marks .entry)) count (laying (now (firsts .entry)) (now («leads_true» .entry)) (now («leads_false» .entry)) (now (primitives .entry)) (now (senses .entry)) (now (trues .entry)) (now (falses .entry))) ⌝ }
+    ensures { λ _. ⌜ laying (now (firsts .exit)) (now (primitives .exit)) (now (senses .exit)) (now (trues .exit)) (now (falses .exit)) ≡ slots-laid (now (kinds .entry)) (now (spans .entry)) (now (marks .entry)) count (laying (now (firsts .entry)) (now (primitives .entry)) (now (senses .entry)) (now (trues .entry)) (now (falses .entry))) ⌝ }
 {
     let mut left = count;
     while left > 0 {
@@ -223,8 +198,6 @@ fn lay_slots(
             marks,
             left,
             firsts,
-            leads_true,
-            leads_false,
             primitives,
             senses,
             trues,
@@ -248,8 +221,6 @@ pub fn lay(
     ensures { λ _. ⌜ LaidOut (now (kinds .entry)) (now (spans .entry)) (now (marks .entry)) n (now (primitives .entry)) (now (senses .entry)) (now (trues .entry)) (now (falses .entry)) (now (primitives .exit)) (now (senses .exit)) (now (trues .exit)) (now (falses .exit)) ⌝ }
 {
     let mut firsts = [0u16; 2047];
-    let mut leads_true = [0u16; 2047];
-    let mut leads_false = [0u16; 2047];
     let root = 2 * n - 2;
     let true_end = Place(n as u16);
     let false_end = Place((n + 1) as u16);
@@ -259,8 +230,8 @@ pub fn lay(
         true_end,
         false_end,
         &mut firsts,
-        &mut leads_true,
-        &mut leads_false,
+        trues,
+        falses,
     );
     lay_slots(
         kinds,
@@ -268,8 +239,6 @@ pub fn lay(
         marks,
         root + 1,
         &mut firsts,
-        &mut leads_true,
-        &mut leads_false,
         primitives,
         senses,
         trues,

@@ -2,7 +2,8 @@
 --   Laid ps qs ts fs ps′ .. gs == the gates gs were written from the first on, and nothing else was changed
 --   LaidOut                    == so were the gates of whatever expression of n literals is held, as its marks arrange it
 --   Layable                    == some expression of n literals is held, with a row of marks beside it
---   Laying                     == the lists on the way: what each slot was handed, and the gates written so far
+--   Laying                     == the lists on the way: the first gate that each slot was handed, and the gates' lists, where at the first
+--                                 gate of a slot that waits stands where it leads as a whole
 --   slot-laid .. i s           == the slot i taken: a literal is a gate, and an operator hands its operands their part
 --   slots-laid .. m s          == the m slots from the front taken, the last first
 --   Pending ks ss fs m         == the m slots from the front hold expressions behind one another, each with room for its gates
@@ -62,31 +63,24 @@ pub record Layable (ks ss bs : List ℕ) (n : ℕ) : Type 0 where
   pub count : literals tree ≡ n
   pub few : n ≤ most-literals
 
--- a slot's first gate and where it leads as a whole, and the gates' lists
+-- the slots' first gates, and the gates' lists
 pub record Laying : Type 0 where
   pub firsts : List ℕ
-  pub leads-true : List ℕ
-  pub leads-false : List ℕ
   pub primitives : List ℕ
   pub senses : List ℕ
   pub trues : List ℕ
   pub falses : List ℕ
 
-abbrev pub laying : (gs us vs ps qs ts fs : List ℕ) → Laying
-laying gs us vs ps qs ts fs =
-    record { firsts = gs; leads-true = us; leads-false = vs; primitives = ps; senses = qs; trues = ts; falses = fs }
+abbrev pub laying : (gs ps qs ts fs : List ℕ) → Laying
+laying gs ps qs ts fs = record { firsts = gs; primitives = ps; senses = qs; trues = ts; falses = fs }
 
--- one gate written at b
-abbrev pub gate-put : Place → Primitive → Bool → Place → Place → Laying → Laying
-gate-put b p sense t f s =
-    laying (s .firsts) (s .leads-true) (s .leads-false)
-    (set (s .primitives) b p) (set (s .senses) b (sense-byte sense)) (set (s .trues) b t) (set (s .falses) b f)
+-- what the literal of the gate b carries; its places stand there already
+abbrev pub gate-put : Place → Primitive → Bool → Laying → Laying
+gate-put b p sense s = laying (s .firsts) (set (s .primitives) b p) (set (s .senses) b (sense-byte sense)) (s .trues) (s .falses)
 
--- the slot j is handed its first gate and its places
+-- the slot j is handed its first gate b, and at b its places
 abbrev pub slot-handed : ℕ → Place → Place → Place → Laying → Laying
-slot-handed j b t f s =
-    laying (set (s .firsts) j b) (set (s .leads-true) j t) (set (s .leads-false) j f)
-    (s .primitives) (s .senses) (s .trues) (s .falses)
+slot-handed j b t f s = laying (set (s .firsts) j b) (s .primitives) (s .senses) (set (s .trues) b t) (set (s .falses) b f)
 
 -- the slots of an operator's operands in the order of the gates: exchanged where its mark is one
 abbrev pub in-order-of : ℕ → ℕ → ℕ → Operands
@@ -107,14 +101,16 @@ first-false (Literal p sense) m f = f
 abbrev pub place-after : Place → ℕ → Place
 place-after b span = b + (span + 1) / 2
 
-abbrev pub handed-down : coded.Kind → Operands → (b next t f : Place) → Laying → Laying
-handed-down k o b next t f s =
-    slot-handed (o .first) b (first-true k next t) (first-false k next f) (slot-handed (o .second) next t f s)
+-- an operator whose first gate is b, and whose places stand there, hands both operands their part
+abbrev pub handed-down : coded.Kind → Operands → (b next : Place) → Laying → Laying
+handed-down k o b next s =
+    slot-handed (o .first) b (first-true k next (getD (s .trues) b 0)) (first-false k next (getD (s .falses) b 0))
+    (slot-handed (o .second) next (getD (s .trues) b 0) (getD (s .falses) b 0) s)
 
-abbrev pub laid-as : coded.Kind → Operands → (b next t f : Place) → Laying → Laying
-laid-as Union o b next t f s = handed-down Union o b next t f s
-laid-as Intersection o b next t f s = handed-down Intersection o b next t f s
-laid-as (Literal p sense) o b next t f s = gate-put b (p .0) sense t f s
+abbrev pub laid-as : coded.Kind → Operands → (b next : Place) → Laying → Laying
+laid-as Union o b next s = handed-down Union o b next s
+laid-as Intersection o b next s = handed-down Intersection o b next s
+laid-as (Literal p sense) o b next s = gate-put b (p .0) sense s
 
 abbrev pub operands-at : (ss bs : List ℕ) → ℕ → Operands
 operands-at ss bs i = in-order-of (getD bs i 0) (i - 1 - getD ss (i - 1) 0) (i - 1)
@@ -122,33 +118,30 @@ operands-at ss bs i = in-order-of (getD bs i 0) (i - 1 - getD ss (i - 1) 0) (i -
 unfoldable pub slot-laid : (ks ss bs : List ℕ) → ℕ → Laying → Laying
 slot-laid ks ss bs i s =
     laid-as (node-kind (getD ks i 0)) (operands-at ss bs i) (getD (s .firsts) i 0)
-    (place-after (getD (s .firsts) i 0) (getD ss (operands-at ss bs i .first) 0))
-    (getD (s .leads-true) i 0) (getD (s .leads-false) i 0) s
+    (place-after (getD (s .firsts) i 0) (getD ss (operands-at ss bs i .first) 0)) s
 
 unfoldable pub slots-laid : (ks ss bs : List ℕ) → ℕ → Laying → Laying
 slots-laid ks ss bs zero s = s
 slots-laid ks ss bs (suc i) s = slots-laid ks ss bs i (slot-laid ks ss bs i s)
 
-pub record GateLaid (b : Place) (p : Primitive) (sense : Bool) (t f : Place) (ps qs ts fs ps′ qs′ ts′ fs′ : List ℕ) : Type 0 where
+pub record GateLaid (b : Place) (p : Primitive) (sense : Bool) (ps qs ps′ qs′ : List ℕ) : Type 0 where
   pub primitive : ps′ ≡ set ps b p
   pub sense-put : qs′ ≡ set qs b (sense-byte sense)
+
+pub record HandedTo (j : ℕ) (b t f : Place) (gs ts fs gs′ ts′ fs′ : List ℕ) : Type 0 where
+  pub first : gs′ ≡ set gs j b
   pub true-place : ts′ ≡ set ts b t
   pub false-place : fs′ ≡ set fs b f
 
-pub record HandedTo (j : ℕ) (b t f : Place) (gs us vs gs′ us′ vs′ : List ℕ) : Type 0 where
-  pub first : gs′ ≡ set gs j b
-  pub leads-true : us′ ≡ set us j t
-  pub leads-false : vs′ ≡ set vs j f
-
 -- both operands were handed their part
-pub record HandedDown (k : coded.Kind) (o : Operands) (ss : List ℕ) (b t f : Place) (gs us vs gs′ us′ vs′ : List ℕ) : Type 0 where
-  pub each : (ps qs ts fs : List ℕ)
-      → laying gs′ us′ vs′ ps qs ts fs ≡ handed-down k o b (place-after b (getD ss (o .first) 0)) t f (laying gs us vs ps qs ts fs)
+pub record HandedDown (k : coded.Kind) (o : Operands) (ss : List ℕ) (b : Place) (gs ts fs gs′ ts′ fs′ : List ℕ) : Type 0 where
+  pub each : (ps qs : List ℕ)
+      → laying gs′ ps qs ts′ fs′ ≡ handed-down k o b (place-after b (getD ss (o .first) 0)) (laying gs ps qs ts fs)
 
 pub record Operating (o : Operands) (ss : List ℕ) (b : Place) : Type 0 where
   pub first-within : o .first < 2047
   pub second-within : o .second < 2047
-  pub fits : place-after b (getD ss (o .first) 0) ≤ most-literals
+  pub fits : place-after b (getD ss (o .first) 0) < most-literals
 
 pub data Pending (ks ss gs : List ℕ) : ℕ → Type 0 where
   none : Pending ks ss gs 0

@@ -1,4 +1,4 @@
--- `lay_gate` stores what the literal carries and the two places of one gate at the gate's own place. Assumes nothing.
+-- `lay_gate` stores what the literal carries at the gate's own place. Assumes nothing.
 use borrow.Author.Needs.{needs}
 use Rattle.weaving.proofs.lay.lay_gate.Statement.{statement}
 use Rattle.weaving.proofs.lay.lay_gate.Tie as tie
@@ -18,26 +18,8 @@ sense-byte-requires c κs = search needs
 element-write-senses : tie.Need-element-write-senses
 element-write-senses c = search needs
 
-mul-trues : tie.Need-mul-trues
-mul-trues c = search needs
-
-element-write-trues : tie.Need-element-write-trues
-element-write-trues c = search needs
-
-mul-falses : tie.Need-mul-falses
-mul-falses c = search needs
-
-element-write-falses : tie.Need-element-write-falses
-element-write-falses c = search needs
-
 returns : tie.Need-returns
-returns c =
-    record {
-      primitive = rw (c .before .wide .ensures);
-      sense-put = rw (c .before .wide .ensures, c .sense-byte .ensures);
-      true-place = rw (c .before .wide .ensures);
-      false-place = rw (c .before .wide .ensures);
-    }
+returns c = record { primitive = rw (c .before .wide .ensures); sense-put = rw (c .before .wide .ensures, c .sense-byte .ensures) }
 
 pub lay-gate-spec : {M : Type 1} → statement M
 lay-gate-spec =
@@ -48,8 +30,4 @@ lay-gate-spec =
     element-write-primitives
     sense-byte-requires
     element-write-senses
-    mul-trues
-    element-write-trues
-    mul-falses
-    element-write-falses
     returns)

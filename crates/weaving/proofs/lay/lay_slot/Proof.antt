@@ -16,35 +16,11 @@ element-copy-out-in-order c = let h = pending-slot (c .before .before .before .p
 in-order-requires : tie.Need-in-order-requires
 in-order-requires c κs = search needs
 
-mul-t27 : tie.Need-mul-t27
-mul-t27 c = let h = pending-slot (c .before .before .before .before .before .pre) in let l = c .before .before .before .before .node-at-arg .given .0 in search needs
+mul-t23 : tie.Need-mul-t23
+mul-t23 c = let h = pending-slot (c .before .before .before .before .before .pre) in let l = c .before .before .before .before .node-at-arg .given .0 in search needs
 
-element-copy-out-t30 : tie.Need-element-copy-out-t30
-element-copy-out-t30 c = let h = pending-slot (c .before .before .before .before .before .pre) in omega (arith, c .before .before .before .before .node-at-arg .given .0)
-
-mul-t27-2 : tie.Need-mul-t27-2
-mul-t27-2 c =
-    let at-node-at-arg = c .before .before .before .before .before in
-    let at-start = at-node-at-arg .before in
-    let h = pending-slot (at-start .pre) in let l = at-node-at-arg .node-at-arg .given .0 in search needs
-
-element-copy-out-t30-2 : tie.Need-element-copy-out-t30-2
-element-copy-out-t30-2 c =
-    let at-node-at-arg = c .before .before .before .before .before in
-    let at-start = at-node-at-arg .before in
-    let h = pending-slot (at-start .pre) in omega (arith, at-node-at-arg .node-at-arg .given .0)
-
-mul-t27-3 : tie.Need-mul-t27-3
-mul-t27-3 c =
-    let at-node-at-arg = c .before .before .before .before .before .before in
-    let at-start = at-node-at-arg .before in
-    let h = pending-slot (at-start .pre) in let l = at-node-at-arg .node-at-arg .given .0 in search needs
-
-element-copy-out-t30-3 : tie.Need-element-copy-out-t30-3
-element-copy-out-t30-3 c =
-    let at-node-at-arg = c .before .before .before .before .before .before in
-    let at-start = at-node-at-arg .before in
-    let h = pending-slot (at-start .pre) in omega (arith, at-node-at-arg .node-at-arg .given .0)
+element-copy-out-t26 : tie.Need-element-copy-out-t26
+element-copy-out-t26 c = let h = pending-slot (c .before .before .before .before .before .pre) in omega (arith, c .before .before .before .before .node-at-arg .given .0)
 
 enum-told : tie.Need-enum-told
 enum-told c = search needs
@@ -52,7 +28,7 @@ enum-told c = search needs
 lay-operator-requires : tie.Need-lay-operator-requires
 lay-operator-requires c κs =
     let at-enum-told = c .before .before .before in
-    let at-in-order = at-enum-told .before .before .before .before .before in
+    let at-in-order = at-enum-told .before .before .before in
     let at-node-at = at-in-order .before .before in
     let at-node-at-arg2 = at-node-at .before in
     let at-args = at-node-at-arg2 .before .before in
@@ -64,7 +40,7 @@ enum-told-2 c = search needs
 lay-operator-requires-2 : tie.Need-lay-operator-requires-2
 lay-operator-requires-2 c κs =
     let at-enum-told2 = c .before .before .before in
-    let at-in-order = at-enum-told2 .before .before .before .before .before in
+    let at-in-order = at-enum-told2 .before .before .before in
     let at-node-at = at-in-order .before .before in
     let at-node-at-arg2 = at-node-at .before in
     let at-args = at-node-at-arg2 .before .before in
@@ -75,27 +51,27 @@ enum-known-kind c = search needs
 
 lay-gate-requires : tie.Need-lay-gate-requires
 lay-gate-requires c κs =
-    let at-start = c .before .before .before .before .before .before .before .before .before .before .before .before .before .before .before in
+    let at-start = c .before .before .before .before .before .before .before .before .before .before .before in
     pending-gate (at-start .pre)
 
 returns : tie.Need-returns
 returns c =
     let at-enum-told = c .before .before .before .before in
-    let at-in-order = at-enum-told .before .before .before .before .before in
+    let at-in-order = at-enum-told .before .before .before in
     let at-node-at = at-in-order .before .before in
     operator-laid _ _ _ _ _ (at-node-at .node-at .ensures) _ (at-in-order .in-order .ensures) union (at-enum-told .enum-told .given .1) refl (c .lay-operator .ensures)
 
 returns-2 : tie.Need-returns-2
 returns-2 c =
     let at-enum-told2 = c .before .before .before .before in
-    let at-in-order = at-enum-told2 .before .before .before .before .before in
+    let at-in-order = at-enum-told2 .before .before .before in
     let at-node-at = at-in-order .before .before in
     operator-laid _ _ _ _ _ (at-node-at .node-at .ensures) _ (at-in-order .in-order .ensures) intersection (at-enum-told2 .enum-told2 .given .1) refl (c .lay-operator2 .ensures)
 
 returns-3 : tie.Need-returns-3
 returns-3 c =
-    let at-kind = c .before .before .before .before .before .before in
-    let at-in-order = at-kind .before .before .before .before .before in
+    let at-kind = c .before .before .before .before in
+    let at-in-order = at-kind .before .before .before in
     let at-node-at = at-in-order .before .before in
     literal-laid _ _ _ _ _ (at-node-at .node-at .ensures) _ (at-in-order .in-order .ensures) (at-kind .kind .given .1) (c .lay-gate .ensures)
 
@@ -106,12 +82,8 @@ lay-slot-spec =
     node-at-requires
     element-copy-out-in-order
     in-order-requires
-    mul-t27
-    element-copy-out-t30
-    mul-t27-2
-    element-copy-out-t30-2
-    mul-t27-3
-    element-copy-out-t30-3
+    mul-t23
+    element-copy-out-t26
     enum-told
     lay-operator-requires
     enum-told-2

@@ -8,11 +8,11 @@ use Rattle.weaving.proofs.lay.lay_slots.Statement.{statement}
 use Rattle.weaving.proofs.lay.lay_slots.Tie as tie
 
 abbrev Inv-loop : tie.InvT-loop
-Inv-loop kinds spans marks count firsts₀ leads-true₀ leads-false₀ primitives₀ senses₀ trues₀ falses₀ left₀ firsts leads-true leads-false primitives senses trues falses left =
-    Onward kinds spans marks count (laying firsts₀ leads-true₀ leads-false₀ primitives₀ senses₀ trues₀ falses₀) left (laying firsts leads-true leads-false primitives senses trues falses)
+Inv-loop kinds spans marks count firsts₀ primitives₀ senses₀ trues₀ falses₀ left₀ firsts primitives senses trues falses left =
+    Onward kinds spans marks count (laying firsts₀ primitives₀ senses₀ trues₀ falses₀) left (laying firsts primitives senses trues falses)
 
 abbrev μ-loop : tie.MeasureT-loop
-μ-loop kinds spans marks count firsts₀ leads-true₀ leads-false₀ primitives₀ senses₀ trues₀ falses₀ left₀ firsts leads-true leads-false primitives senses trues falses left = left
+μ-loop kinds spans marks count firsts₀ primitives₀ senses₀ trues₀ falses₀ left₀ firsts primitives senses trues falses left = left
 
 loop-holds : tie.Need-loop-holds Inv-loop μ-loop
 loop-holds c = record { pending = c .pre; same = refl }
@@ -22,18 +22,18 @@ sub-left c = search needs
 
 lay-slot-requires : tie.Need-lay-slot-requires Inv-loop μ-loop
 lay-slot-requires c κs =
-    let at-loop-test = c .before .before .before .before .before .before .before in
+    let at-loop-test = c .before .before .before .before .before in
     let at-loop = at-loop-test .before in
     onward-slot _ (let h = at-loop-test .loop-test .taken in omega arith) (at-loop .loop .inv)
 
 loop-less : tie.Need-loop-less Inv-loop μ-loop
 loop-less c =
-    let at-loop-test = c .before .before .before .before .before .before .before .before in
+    let at-loop-test = c .before .before .before .before .before .before in
     let h = at-loop-test .loop-test .taken in omega arith
 
 loop-again : tie.Need-loop-again Inv-loop μ-loop
 loop-again c =
-    let at-loop-test = c .before .before .before .before .before .before .before .before in
+    let at-loop-test = c .before .before .before .before .before .before in
     let at-loop = at-loop-test .before in
     onward-step _ _ _ _ _ _ _ _ _ (let h = at-loop-test .loop-test .taken in omega arith) (c .lay-slot .ensures) (at-loop .loop .inv)
 
