@@ -2,7 +2,7 @@
 -- expression of n literals has costs of at most n + 1. Assumes nothing.
 use Prim.Native.Nat.{ℕ, _+_, _≤_, _<_, max, min}
 use mathlib.Core.Path.{_≡_, refl, sym, ap, ap₂, _∙_}
-use mathlib.Core.Bool.{Bool, true, false, cond, not, _&&_, _||_, Bool·beq, or-false}
+use mathlib.Core.Bool.{Bool, true, false, cond, not, _&&_, _||_, Bool·beq, or-false, and-false}
 use mathlib.Core.List.{List, [], _∷_}
 use native.Mathlib.Decide.{decLt}
 use native.Mathlib.Omega.{arith}
@@ -39,10 +39,10 @@ alike-unmarked true = refl
 alike-unmarked false = refl
 
 -- equal costs leave it to the rest of the row, and others decide
-pub decided-later : (a b : ℕ) (rest : Bool) → a ≡ b → (ltb a b || (eqb a b && rest)) ≡ rest
+decided-later : (a b : ℕ) (rest : Bool) → a ≡ b → (ltb a b || (eqb a b && rest)) ≡ rest
 decided-later a b rest e = rw (le-ltb a b (omega arith), eq-eqb a b e)
 
-pub decided-here : (a b : ℕ) (rest : Bool) → (a ≡ b → ⊥) → (ltb a b || (eqb a b && rest)) ≡ ltb a b
+decided-here : (a b : ℕ) (rest : Bool) → (a ≡ b → ⊥) → (ltb a b || (eqb a b && rest)) ≡ ltb a b
 decided-here a b rest e = rw (ne-eqb a b e) (or-false (ltb a b))
 
 -- an array of three is its three entries
@@ -53,14 +53,23 @@ three (a ∷ b ∷ []) e = absurd (omega arith)
 three (a ∷ b ∷ c ∷ []) e = refl
 three (a ∷ b ∷ c ∷ d ∷ xs) e = absurd (omega arith)
 
--- two rows of three compared from the last place on
-pub smaller-three : (a b : List ℕ) {x y z : Bool} → length a ≡ 3 → length b ≡ 3
-    → x ≡ (ltb (getD a 2 0) (getD b 2 0) || (eqb (getD a 2 0) (getD b 2 0) && false))
-    → y ≡ (ltb (getD a 1 0) (getD b 1 0) || (eqb (getD a 1 0) (getD b 1 0) && x))
-    → z ≡ (ltb (getD a 0 0) (getD b 0 0) || (eqb (getD a 0 0) (getD b 0 0) && y))
-    → z ≡ smaller a b
-unfolding smaller
-smaller-three a b p q ex ey ez = (rw (ey, ex) at ez) ∙ sym (ap₂ smaller (three a p) (three b q))
+-- the first place where two rows of three differ decides, or else the third
+module _ (a b : List ℕ) (p : length a ≡ 3) (q : length b ≡ 3) where
+  by-places : smaller a b
+      ≡ (ltb (getD a 0 0) (getD b 0 0)
+      || (eqb (getD a 0 0) (getD b 0 0)
+      && (ltb (getD a 1 0) (getD b 1 0) || (eqb (getD a 1 0) (getD b 1 0) && ltb (getD a 2 0) (getD b 2 0)))))
+  unfolding smaller
+  by-places = ap₂ smaller (three a p) (three b q) ∙ rw (and-false, or-false)
+
+  pub first-decides : (getD a 0 0 ≡ getD b 0 0 → ⊥) → ltb (getD a 0 0) (getD b 0 0) ≡ smaller a b
+  first-decides h = sym (by-places ∙ decided-here _ _ _ h)
+
+  pub second-decides : getD a 0 0 ≡ getD b 0 0 → (getD a 1 0 ≡ getD b 1 0 → ⊥) → ltb (getD a 1 0) (getD b 1 0) ≡ smaller a b
+  second-decides e h = sym (by-places ∙ decided-later _ _ _ e ∙ decided-here _ _ _ h)
+
+  pub third-decides : getD a 0 0 ≡ getD b 0 0 → getD a 1 0 ≡ getD b 1 0 → ltb (getD a 2 0) (getD b 2 0) ≡ smaller a b
+  third-decides e f = sym (by-places ∙ decided-later _ _ _ e ∙ decided-later _ _ _ f)
 
 same-three : {a b c d e f : ℕ} → a ≡ d → b ≡ e → c ≡ f → _≡_ {A = List ℕ} (a ∷ b ∷ c ∷ []) (d ∷ e ∷ f ∷ [])
 same-three p q r = cc

@@ -1,8 +1,7 @@
 // Price tags: the tag of an operator over its children's, and the row of a tag's costs, largest first, compared place by place.
 ghost use mathlib.Core.Path.{_≡_};
-ghost use mathlib.Core.Bool.{Bool, cond, _&&_, _||_, Bool·beq};
-ghost use Prim.Native.Nat.{_+_, _<_, max, min};
-ghost use lib.Dec.{ltb, eqb};
+ghost use mathlib.Core.Bool.{Bool, cond, Bool·beq};
+ghost use Prim.Native.Nat.{max, min};
 ghost use Rattle.turning.specs.Tags.{leaf, priced, row, smaller, greatest};
 ghost use Rattle.turning.specs.code.Coded.{with-costs, meant, joining, Small};
 
@@ -79,18 +78,17 @@ pub fn row(costs: [u16; 3]) -> [u16; 3]
     ]
 }
 
-// The one cost is smaller, or they are equal and the rest of the row is smaller.
-fn decides(a: u16, b: u16, rest: bool) -> bool
-    ensures { λ r. ⌜ r ≡ (ltb a b || (eqb a b && rest)) ⌝ }
-{
-    if a == b { rest } else { a < b }
-}
-
 // Whether the one row is smaller, compared place by place.
 pub fn row_less(a: [u16; 3], b: [u16; 3]) -> bool
     ensures { λ r. ⌜ r ≡ smaller a b ⌝ }
 {
-    decides(a[0], b[0], decides(a[1], b[1], decides(a[2], b[2], false)))
+    if a[0] != b[0] {
+        return a[0] < b[0];
+    }
+    if a[1] != b[1] {
+        return a[1] < b[1];
+    }
+    a[2] < b[2]
 }
 
 // The greatest of the three costs.

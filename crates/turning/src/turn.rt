@@ -68,7 +68,8 @@ fn mark_byte(exchanged: bool) -> u8
     if exchanged { 1 } else { 0 }
 }
 
-// Turns the expression held up to the slot i: settles both children and then the operator, and puts its mark beside it.
+// Turns the expression held up to the slot i: settles both children and then the operator, and puts its mark beside it. The
+// kind is looked up again behind the children, so that no level keeps it across them.
 pub fn turn(kinds: &[u16; 2047], spans: &[u16; 2047], marks: &mut [u8; 2047], i: usize) -> Tag
     requires { ⌜ Site (now kinds) (now spans) i ⌝ }
     ensures { λ t. ⌜ Turned (now (kinds .entry)) (now (spans .entry)) (now (marks .entry)) (now (marks .exit)) i (meant t) ⌝ }
@@ -82,7 +83,8 @@ pub fn turn(kinds: &[u16; 2047], spans: &[u16; 2047], marks: &mut [u8; 2047], i:
     let right = node.right;
     let l = turn(kinds, spans, marks, left);
     let r = turn(kinds, spans, marks, right);
-    let settled = settle(is_intersection(kind), l, r);
+    let to_settle = formula::node_at(kinds, spans, i).kind;
+    let settled = settle(is_intersection(to_settle), l, r);
     put_mark(marks, i, settled.exchanged);
     settled.tag
 }
@@ -99,7 +101,7 @@ fn price_placed(mark: u8, intersection: bool, l: Tag, r: Tag) -> Tag
     price::price(intersection, l, r)
 }
 
-// The tag of the expression held up to the slot i, arranged by the marks beside it.
+// The tag of the expression held up to the slot i, arranged by the marks beside it. The kind is looked up again, as in `turn`.
 pub fn price_by(kinds: &[u16; 2047], spans: &[u16; 2047], marks: &[u8; 2047], i: usize) -> Tag
     requires { ⌜ MarkedSite (now kinds) (now spans) (now marks) i ⌝ }
     ensures { λ t. ⌜ PricedBy (now (kinds .entry)) (now (spans .entry)) (now (marks .entry)) i (meant t) ⌝ }
@@ -113,5 +115,6 @@ pub fn price_by(kinds: &[u16; 2047], spans: &[u16; 2047], marks: &[u8; 2047], i:
     let right = node.right;
     let l = price_by(kinds, spans, marks, left);
     let r = price_by(kinds, spans, marks, right);
-    price_placed(marks[i], is_intersection(kind), l, r)
+    let to_price = formula::node_at(kinds, spans, i).kind;
+    price_placed(marks[i], is_intersection(to_price), l, r)
 }

@@ -1,53 +1,66 @@
--- The places are compared one after the other, as `smaller` compares two rows of three. Assumes nothing.
-use Rattle.turning.proofs.CodedTags.{smaller-three}
+-- The first place where the two rows differ decides, or else the third, as `smaller` compares two rows of three. Assumes nothing.
+use Rattle.turning.proofs.CodedTags.{first-decides, second-decides, third-decides}
 use borrow.Author.Needs.{needs}
 use Rattle.turning.proofs.price.row_less.Statement.{statement}
 use Rattle.turning.proofs.price.row_less.Tie as tie
 
-array-read-decides : tie.Need-array-read-decides
-array-read-decides c = search needs
+array-read-if1 : tie.Need-array-read-if1
+array-read-if1 c = search needs
 
-array-read-decides-2 : tie.Need-array-read-decides-2
-array-read-decides-2 c = search needs
+array-read-if1-2 : tie.Need-array-read-if1-2
+array-read-if1-2 c = search needs
 
-array-read-decides-3 : tie.Need-array-read-decides-3
-array-read-decides-3 c = search needs
+array-read-result : tie.Need-array-read-result
+array-read-result c = search needs
 
-array-read-decides-4 : tie.Need-array-read-decides-4
-array-read-decides-4 c = search needs
-
-array-read-decides-5 : tie.Need-array-read-decides-5
-array-read-decides-5 c = search needs
-
-array-read-decides-6 : tie.Need-array-read-decides-6
-array-read-decides-6 c = search needs
-
-decides-requires : tie.Need-decides-requires
-decides-requires c κs = search needs
-
-decides-requires-2 : tie.Need-decides-requires-2
-decides-requires-2 c κs = search needs
-
-decides-requires-3 : tie.Need-decides-requires-3
-decides-requires-3 c κs = search needs
+array-read-result-2 : tie.Need-array-read-result-2
+array-read-result-2 c = search needs
 
 returns : tie.Need-returns
-returns c =
-    let s = c .before .before .before in
-    smaller-three (s .args .t1) (s .args .t2) (s .good .0 .1 .0 .1) (s .good .1 .0 .1 .0 .1)
-    (c .before .before .decides .ensures) (c .before .decides2 .ensures) (c .decides3 .ensures)
+returns c = first-decides _ _ (c .before .good .0 .1 .0 .1) (c .before .good .1 .0 .1 .0 .1) (c .if1 .taken)
+
+array-read-if2 : tie.Need-array-read-if2
+array-read-if2 c = search needs
+
+array-read-if2-2 : tie.Need-array-read-if2-2
+array-read-if2-2 c = search needs
+
+array-read-result-3 : tie.Need-array-read-result-3
+array-read-result-3 c = search needs
+
+array-read-result-4 : tie.Need-array-read-result-4
+array-read-result-4 c = search needs
+
+returns-2 : tie.Need-returns-2
+returns-2 c =
+    let s = c .before .before in
+    second-decides _ _ (s .good .0 .1 .0 .1) (s .good .1 .0 .1 .0 .1) (c .before .if1 .left) (c .if2 .taken)
+
+array-read-result-5 : tie.Need-array-read-result-5
+array-read-result-5 c = search needs
+
+array-read-result-6 : tie.Need-array-read-result-6
+array-read-result-6 c = search needs
+
+returns-3 : tie.Need-returns-3
+returns-3 c =
+    let s = c .before .before in
+    third-decides _ _ (s .good .0 .1 .0 .1) (s .good .1 .0 .1 .0 .1) (c .before .if1 .left) (c .if2 .left)
 
 pub row-less-spec : {M : Type 1} → statement M
 row-less-spec =
     tie.close
     (tie.spec
-    array-read-decides
-    array-read-decides-2
-    array-read-decides-3
-    array-read-decides-4
-    array-read-decides-5
-    array-read-decides-6
-    decides-requires
-    decides-requires-2
-    decides-requires-3
-    returns)
+    array-read-if1
+    array-read-if1-2
+    array-read-result
+    array-read-result-2
+    returns
+    array-read-if2
+    array-read-if2-2
+    array-read-result-3
+    array-read-result-4
+    returns-2
+    array-read-result-5
+    array-read-result-6
+    returns-3)

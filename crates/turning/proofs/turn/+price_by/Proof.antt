@@ -89,15 +89,22 @@ module _ (t : ℕ) where
       let p = c .before .before .before .before .before .before .pre in
       right-marked _ _ _ _ (p .1) (inner (c .before)) _ t (p .0) (right-at (c .before .before .before))
 
+  node-at-requires-2 : lts.Need-node-at-requires-2 (calls t) (price-by-at t) price-by.Post
+  node-at-requires-2 c κs =
+      let n = c .before .before .before .before .before .before in
+      site-within _ _ _ (n .before .before .before .pre .1 .site)
+
   element-copy-out-price-placed : lts.Need-element-copy-out-price-placed (calls t) (price-by-at t) price-by.Post
-  element-copy-out-price-placed c = omega (arith, c .before .before .before .before .before .before .before .pre .1 .site .low)
+  element-copy-out-price-placed c =
+      let n = c .before .before .before .before .before .before .before in
+      omega (arith, n .before .before .before .pre .1 .site .low)
 
   is-intersection-requires : lts.Need-is-intersection-requires (calls t) (price-by-at t) price-by.Post
   is-intersection-requires c κs = tt
 
   price-placed-requires : lts.Need-price-placed-requires (calls t) (price-by-at t) price-by.Post
   price-placed-requires c κs =
-      let b = c .before .before in
+      let b = c .before .before .before .before .before in
       let e = b .before .before in
       let n = e .before .before in
       before-price _ _ _ _ (n .before .before .before .pre .1) (inner e) _ _
@@ -106,14 +113,15 @@ module _ (t : ℕ) where
 
   returns-2 : lts.Need-returns-2 (calls t) (price-by-at t) price-by.Post
   returns-2 c =
-      let b = c .before .before .before in
+      let again = c .before .before .before in
+      let b = again .before .before .before in
       let e = b .before .before in
       let n = e .before .before in
       after-price _ _ _ _ (n .before .before .before .pre .1) (inner e) _ _
       (rw (left-at n) at (b .before .price-by .ensures))
       (rw (right-at n) at (b .price-by2 .ensures))
       _ _
-      (c .before .is-intersection .ensures ∙ ap (λ (x : Node). intersecting (x .kind)) (n .node-at .ensures))
+      (c .before .is-intersection .ensures ∙ ap (λ (x : Node). intersecting (x .kind)) (again .node-at2 .ensures))
       (c .price-placed .ensures)
 
 pub +price-by-spec : {M : Type 1} → statement M
@@ -126,6 +134,7 @@ pub +price-by-spec : {M : Type 1} → statement M
     (returns t)
     (price-by-requires t)
     (price-by-requires-2 t)
+    (node-at-requires-2 t)
     (element-copy-out-price-placed t)
     (is-intersection-requires t)
     (price-placed-requires t)

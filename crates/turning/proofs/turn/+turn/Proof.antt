@@ -1,5 +1,5 @@
--- `turn` turns both operands, which leaves their marks behind them, and then settles the operator and puts its mark into its own
--- slot; what falls is the subtree's size, which its slot tells. Assumes nothing.
+-- `turn` turns both operands, which leaves their marks behind them and the tree as it was, and then settles the operator and puts
+-- its mark into its own slot; what falls is the subtree's size, which its slot tells. Assumes nothing.
 use Prim.Native.Nat.{ℕ, _<_, _-_}
 use mathlib.Core.Path.{_≡_, sym, ap, _∙_}
 use mathlib.Core.Bool.{false}
@@ -95,9 +95,6 @@ module _ (t : ℕ) where
       let p = n .before .before .before .pre in
       right-site _ _ _ (p .1) (inner e) _ t (p .0) (right-at n)
 
-  is-intersection-requires : lts.Need-is-intersection-requires (calls t) (turn-at t) turn.Post
-  is-intersection-requires c κs = tt
-
   walked : (c : lts.After-turn2 (calls t) (turn-at t) turn.Post) →
       let f = c .before .before in
       let s = f .before .before .before .before .before .before .before .args in
@@ -114,20 +111,31 @@ module _ (t : ℕ) where
         second = rw (right-at n) at (c .turn2 .ensures);
       }
 
+  node-at-requires-2 : lts.Need-node-at-requires-2 (calls t) (turn-at t) turn.Post
+  node-at-requires-2 c κs =
+      let n = c .before .before .before .before .before .before .before .before in
+      let h = site-within _ _ _ (walked (c .before .before) .site) in
+      (omega (arith, h .0, right-at n), omega (arith, h .1, right-at n))
+
+  is-intersection-requires : lts.Need-is-intersection-requires (calls t) (turn-at t) turn.Post
+  is-intersection-requires c κs = tt
+
   settle-requires : lts.Need-settle-requires (calls t) (turn-at t) turn.Post
-  settle-requires c κs = before-settle _ _ _ _ _ _ _ (walked (c .before))
+  settle-requires c κs = before-settle _ _ _ _ _ _ _ (walked (c .before .before .before .before))
 
   put-mark-requires : lts.Need-put-mark-requires (calls t) (turn-at t) turn.Post
-  put-mark-requires c κs = omega (arith, c .before .before .before .before .before .before .before .before .before .before .before .before .pre .1 .low, c .put-mark-arg .given .0)
+  put-mark-requires c κs =
+      let w = c .before .before .before .before .before .before in
+      omega (arith, walked w .site .low, c .put-mark-arg .given .0)
 
   returns-2 : lts.Need-returns-2 (calls t) (turn-at t) turn.Post
   returns-2 c =
       let m = c .before in
       let a = m .before .before in
-      let w = a .before .before in
-      let n = w .before .before .before .before .before .before in
-      after-settle _ _ _ _ _ _ _ (walked w) (omega (arith, n .before .before .before .pre .1 .low, m .before .put-mark-arg .given .0)) _ _ _
-      (a .before .is-intersection .ensures ∙ ap (λ (x : Node). intersecting (x .kind)) (n .node-at .ensures))
+      let again = a .before .before in
+      let w = again .before .before .before in
+      after-settle _ _ _ _ _ _ _ (walked w) (omega (arith, walked w .site .low, m .before .put-mark-arg .given .0)) _ _ _
+      (a .before .is-intersection .ensures ∙ ap (λ (x : Node). intersecting (x .kind)) (again .node-at2 .ensures))
       (a .settle .ensures)
       (m .put-mark .ensures)
 
@@ -141,6 +149,7 @@ pub +turn-spec : {M : Type 1} → statement M
     (returns t)
     (turn-requires t)
     (turn-requires-2 t)
+    (node-at-requires-2 t)
     (is-intersection-requires t)
     (settle-requires t)
     (put-mark-requires t)
