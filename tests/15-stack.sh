@@ -8,12 +8,12 @@ if setarch "$(uname -m)" -R true 2> /dev/null; then still=(setarch "$(uname -m)"
 on() { env -i PATH="$PATH" STACK="$1" "${still[@]}" bash tests/run-x86.sh "$2"; }
 many() { for ((i = 0; i < $2; i++)); do printf '%s' "$1"; done; }
 
-on 167936 target/bin/examples | cmp - crates/examples/stdout
+on 143360 target/bin/examples | cmp - crates/examples/stdout
 
 # The table of the text on standard input has so many gates and labels.
 lists() {
     local lines
-    lines=$(on 200704 target/bin/list)
+    lines=$(on 176128 target/bin/list)
     if [ "${lines%%$'\n'*}" != "gates $1 labels $2" ]; then
         echo "15-stack: gates $1 labels $2 expected, not ${lines%%$'\n'*}"
         exit 1

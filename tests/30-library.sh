@@ -54,8 +54,8 @@ CC86 "${strict[@]}" examples/c/smallest.c -o "$work/smallest" "${flags[@]}"
 RUN86 "$work/smallest" | diff - examples/c/smallest.out
 CC86 "${strict[@]}" tests/library/calls.c -o "$work/calls" "${flags[@]}"
 RUN86 "$work/calls"
-echo "the stack that a thread needs to compile"
-CC86 -std=gnu99 -Wall -Wextra -Werror -O2 tests/library/stack.c -o "$work/stack" "${flags[@]}" -lpthread
+echo "the stack that compiling takes"
+CC86 -std=gnu11 -Wall -Wextra -Werror -O2 tests/library/stack.c -o "$work/stack" "${flags[@]}" -lpthread
 RUN86 "$work/stack"
 for standard in c99 c11 c17; do CC86 -xc -std=$standard -Wall -Wextra -Wpedantic -Werror -fsyntax-only include/blist.h; done
 if command -v g++ > /dev/null; then g++ -xc++ -std=c++11 -Wall -Wextra -Wpedantic -Werror -fsyntax-only include/blist.h; fi
