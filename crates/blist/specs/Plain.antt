@@ -83,7 +83,7 @@ plain-ends (result e) = record { refusal = 0; at = 0; «on_true» = e .on-true; 
 plain-ends (refused number at) = record { refusal = number; at = at; «on_true» = 0; «on_false» = 0 }
 
 abbrev pub version : ℕ
-version = 10100
+version = 10101
 
 -- truth is a byte, nought false, all else true
 abbrev pub truth-of : ℕ → Bool

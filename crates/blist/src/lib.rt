@@ -317,5 +317,5 @@ pub extern "C" fn blist_ends(table: &[u8]) -> PlainEnds
 pub extern "C" fn blist_version() -> u32
     ensures { λ r. ⌜ r ≡ version ⌝ }
 {
-    10100
+    10101
 }
