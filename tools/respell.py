@@ -188,6 +188,8 @@ def main():
             for a, b in FOLDERS.items():
                 if a in dirs and not os.path.exists(os.path.join(root, a, "Proof.antt")) and any(f.endswith(".antt") for f in os.listdir(os.path.join(root, a))):
                     subprocess.run(["git", "mv", os.path.join(root, a), os.path.join(root, b)], check=True)
+                if os.path.exists(os.path.join(root, a + ".antt")):
+                    subprocess.run(["git", "mv", os.path.join(root, a + ".antt"), os.path.join(root, b + ".antt")], check=True)
     with open("tools/respelled.tsv", "w", encoding="utf-8") as f:
         for a in sorted(before):
             if a != before[a]:
