@@ -1,5 +1,8 @@
 // The functions for a viewer in C or Rust. Each takes the enum of an entry point apart and returns one plain struct:
 // a refusal's number, nought for none, with its place, and the values of the result; nought where a field has no meaning.
+
+#![tactic(auto)]
+
 ghost use Rattle.std.specs.Prelude.{◌≡◌, cond};
 ghost use Rattle.terms.specs.Answer.{result, refused};
 ghost use Rattle.blist.specs.Plain.{plain_run, plain_truth, plain_counts, plain_record, plain_ends, version, CompileRight, StartRight, FeedRight, AnswerRight, HeaderRight, GateRight, EndsRight};
@@ -13,7 +16,7 @@ use terms::{FIRST_LABEL, Label, Refusal};
 
 // What compiling returns.
 #[repr(C)]
-#[derive(Drop)]
+#[derive(Clone, Copy)]
 pub struct PlainTable {
     pub refusal: u8,
     pub at: usize,
@@ -22,7 +25,7 @@ pub struct PlainTable {
 
 // What a start and a feed return.
 #[repr(C)]
-#[derive(Drop)]
+#[derive(Clone, Copy)]
 pub struct PlainRun {
     pub refusal: u8,
     pub at: usize,
@@ -32,7 +35,7 @@ pub struct PlainRun {
 
 // What an answer returns.
 #[repr(C)]
-#[derive(Drop)]
+#[derive(Clone, Copy)]
 pub struct PlainTruth {
     pub refusal: u8,
     pub at: usize,
@@ -41,7 +44,7 @@ pub struct PlainTruth {
 
 // What a header, a gate's record and the last record return.
 #[repr(C)]
-#[derive(Drop)]
+#[derive(Clone, Copy)]
 pub struct PlainCounts {
     pub refusal: u8,
     pub at: usize,
@@ -51,7 +54,7 @@ pub struct PlainCounts {
 }
 
 #[repr(C)]
-#[derive(Drop)]
+#[derive(Clone, Copy)]
 pub struct PlainRecord {
     pub refusal: u8,
     pub at: usize,
@@ -63,7 +66,7 @@ pub struct PlainRecord {
 }
 
 #[repr(C)]
-#[derive(Drop)]
+#[derive(Clone, Copy)]
 pub struct PlainEnds {
     pub refusal: u8,
     pub at: usize,

@@ -1,5 +1,8 @@
 // Compile: read, plan, finish. The order of refusals 1 to 8, and nothing written on refusal.
 // The working slices are local; only the output buffer is lent.
+
+#![tactic(auto)]
+
 ghost use Rattle.std.specs.Prelude.{◌≡◌, ℕ, ◌+◌, ◌*◌, ◌≤◌, ◌<◌, length};
 ghost use Rattle.compiler.specs.Shown.{CompiledRight};
 ghost use Rattle.compiler.specs.Code.Finished.{root_of, HeldTree, Marking, Planned, Weavable, WovenInto, FinishedBy};
@@ -8,7 +11,7 @@ use terms::{MOST_LABELS, Refusal};
 use text::Reading;
 
 // The length of the table in the lent buffer, or a refusal with nothing written.
-#[derive(Drop)]
+#[derive(Clone, Copy)]
 pub enum Compiled {
     Table(usize),
     Refused(Refusal),

@@ -1,5 +1,8 @@
 // Compiles each text of the stored corpus into a buffer of the room that its record names, and compares the answer and the
 // whole buffer with what the record says. The second program wrote the records; second/README.md has their form.
+
+#![tactic(auto)]
+
 ghost use Rattle.std.specs.Prelude.{◌≡◌, ◌+◌, ◌*◌, ◌≤◌};
 
 use compiler::Compiled;
@@ -10,7 +13,7 @@ const BLANK: u8 = 170;
 
 // How long the text is, the room for its table, and how long the answer is. Where the input ended, or a length passes its
 // buffer, the record is not whole.
-#[derive(Drop)]
+#[derive(Clone, Copy)]
 struct Lengths {
     whole: bool,
     text: usize,

@@ -1,5 +1,8 @@
 // Compiles the examples of document 01 and of request 1, and the worst texts, and writes a line for each: its name, and then
 // the counts of its table or its refusal. The stack holds one text and one table.
+
+#![tactic(auto)]
+
 mod answers;
 mod texts;
 

@@ -1,6 +1,9 @@
 // The expression: as typed, in positive form, and as its marks arrange it; its truth; and how it stands in lent slices.
 // Two slices hold it, an operator behind its left and its right operand: a number for each node's kind, and how many slots
 // its subtree takes.
+
+#![tactic(auto)]
+
 ghost use Rattle.std.specs.Prelude.{◌≡◌, true, false, ℕ, ◌+◌, ◌-◌, ◌*◌, ◌≤◌, ◌<◌, length, get_or, set};
 ghost use Rattle.terms.specs.Terms.{greatest_primitive};
 ghost use Rattle.formula.specs.Code.Held.{node_kind, node_at, is_leaf, literal_number, join_number};
@@ -8,7 +11,7 @@ ghost use Rattle.formula.specs.Code.Held.{node_kind, node_at, is_leaf, literal_n
 use terms::Primitive;
 
 // What a node is.
-#[derive(Drop)]
+#[derive(Clone, Copy)]
 pub enum Kind {
     Union,
     Intersection,
@@ -16,7 +19,7 @@ pub enum Kind {
 }
 
 // A node with the slots of its operands; a literal has none, and the slots mean nothing.
-#[derive(Drop)]
+#[derive(Clone, Copy)]
 pub struct Node {
     pub kind: Kind,
     pub left: usize,

@@ -1,12 +1,15 @@
 // What a byte of a text stands for, the tests on it, and how close an operator binds. The rest of the room is definitions and
 // laws: what a text means, and the rows of refusals 1 to 6.
+
+#![tactic(auto)]
+
 ghost use Rattle.std.specs.Prelude.{◌≡◌};
 ghost use Rattle.grammar.specs.Bytes.{sign_of, is_other, is_digit};
 ghost use Rattle.grammar.specs.Twins.Places.{is_open, is_close};
 ghost use Rattle.grammar.specs.Twins.Reader.{level};
 
 // What joins two operands.
-#[derive(Drop)]
+#[derive(Clone, Copy)]
 pub enum Operator {
     Plus,
     Times,
@@ -14,7 +17,7 @@ pub enum Operator {
 }
 
 // What a byte of a text stands for.
-#[derive(Drop)]
+#[derive(Clone, Copy)]
 pub enum Sign {
     Digit(u8),
     Joins(Operator),

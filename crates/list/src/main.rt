@@ -1,4 +1,7 @@
 // The listing program: reads an expression from standard input and writes the lines of its table, or its refusal.
+
+#![tactic(auto)]
+
 ghost use Rattle.std.specs.Prelude.{◌≡◌, length};
 ghost use Rattle.io.specs.Counts.{IsPrefixLen};
 ghost use Rattle.listing.specs.Code.Written.{Printed};
@@ -19,7 +22,7 @@ fn listed(text: &[u8], table: &mut [u8], out: &mut [u8; 32768]) -> usize
 }
 
 // What reading came to: how many bytes stand at the front of the buffer, and whether a read failed.
-#[derive(Drop)]
+#[derive(Clone, Copy)]
 struct Input {
     length: usize,
     failed: bool,

@@ -1,5 +1,8 @@
 // The listing: the lines of a table or of a refusal, written into a lent buffer. A writer takes the buffer and the place
 // to write at, and answers the place behind what it wrote.
+
+#![tactic(auto)]
+
 ghost use Rattle.std.specs.Prelude.{◌≡◌, [], ◌∷◌, ◌+◌, ◌≤◌, ◌<◌, length};
 ghost use Rattle.terms.specs.Terms.{most_literals};
 ghost use Rattle.table.specs.Shown.{shown_gate};

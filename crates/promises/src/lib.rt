@@ -14,3 +14,5 @@
 // with the right choice), Neighbours.antt (false statements next to the demands), WrongPrograms.antt, Never.antt (a refusal that is
 // never given). What they alone use is in specs/examples.
 // The laws behind all of them are in proofs/laws.
+
+#![tactic(auto)]

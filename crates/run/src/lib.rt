@@ -1,4 +1,7 @@
 // The run over a table that may have come from anywhere: what it reads of it, start it, feed it one truth per gate, ask its answer.
+
+#![tactic(auto)]
+
 ghost use Rattle.std.specs.Prelude.{◌≡◌, ltb};
 ghost use Rattle.table.specs.Shown.{shown_gate, shown_end};
 ghost use Rattle.table.specs.Code.Checked.{checked_header};
@@ -10,45 +13,45 @@ use table::{Checked, CheckedEnd, CheckedGate, End, Gate, Header};
 use terms::{FIRST_LABEL, Label, Place, Refusal};
 
 // The gate number and the label of a run, which its holder may have altered.
-#[derive(Drop)]
+#[derive(Clone, Copy)]
 pub struct Run {
     pub gate: usize,
     pub label: Label,
 }
 
 // What is read of a table, or why it is not.
-#[derive(Drop)]
+#[derive(Clone, Copy)]
 pub enum HeaderRead {
     Header(Header),
     Refused(Refusal),
 }
 
-#[derive(Drop)]
+#[derive(Clone, Copy)]
 pub enum GateRead {
     Record(Gate),
     Refused(Refusal),
 }
 
-#[derive(Drop)]
+#[derive(Clone, Copy)]
 pub enum EndRead {
     Record(End),
     Refused(Refusal),
 }
 
-#[derive(Drop)]
+#[derive(Clone, Copy)]
 pub enum Started {
     Run(Run),
     Refused(Refusal),
 }
 
 // A refused feed carries the run that was handed in.
-#[derive(Drop)]
+#[derive(Clone, Copy)]
 pub enum Fed {
     Run(Run),
     Refused(Refusal, Run),
 }
 
-#[derive(Drop)]
+#[derive(Clone, Copy)]
 pub enum Answered {
     Truth(bool),
     Refused(Refusal),

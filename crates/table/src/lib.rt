@@ -1,4 +1,7 @@
 // The table's bytes: where each record stands, how it is written, and how a table from anywhere is checked.
+
+#![tactic(auto)]
+
 pub mod write;
 
 ghost use Rattle.std.specs.Prelude.{◌≡◌, ◌+◌, ◌*◌, ◌≤◌, length};
@@ -29,7 +32,7 @@ const GATE_LENGTH: usize = 6;
 const END_LENGTH: usize = 3;
 
 // What the header says: its kind, the number of gates and the label count.
-#[derive(Drop)]
+#[derive(Clone, Copy)]
 pub struct Header {
     pub kind: u8,
     pub gates: u16,
@@ -37,7 +40,7 @@ pub struct Header {
 }
 
 // What the record of a gate says.
-#[derive(Drop)]
+#[derive(Clone, Copy)]
 pub struct Gate {
     pub kind: u8,
     pub primitive: Primitive,
@@ -47,7 +50,7 @@ pub struct Gate {
 }
 
 // What the last record says.
-#[derive(Drop)]
+#[derive(Clone, Copy)]
 pub struct End {
     pub kind: u8,
     pub on_true: Label,
@@ -55,19 +58,19 @@ pub struct End {
 }
 
 // A table whose checked parts fit, with its header; or the place of the fault.
-#[derive(Drop)]
+#[derive(Clone, Copy)]
 pub enum Checked {
     Fits(Header),
     Fault(usize),
 }
 
-#[derive(Drop)]
+#[derive(Clone, Copy)]
 pub enum CheckedGate {
     Fits(Gate),
     Fault(usize),
 }
 
-#[derive(Drop)]
+#[derive(Clone, Copy)]
 pub enum CheckedEnd {
     Fits(End),
     Fault(usize),

@@ -1,20 +1,22 @@
 // The words that every room shares: a gate's place, a label and a primitive, which are three counters kept apart,
 // the refusal that every entry point may answer, and the limits.
 
+#![tactic(auto)]
+
 // The number of a primitive.
-#[derive(Drop)]
+#[derive(Clone, Copy)]
 pub struct Primitive(pub u16);
 
 // A place that a gate leads to: another gate's number, or one of the two ends beyond the last gate.
-#[derive(Drop)]
+#[derive(Clone, Copy)]
 pub struct Place(pub u16);
 
 // A label that a place holds.
-#[derive(Drop)]
+#[derive(Clone, Copy)]
 pub struct Label(pub u8);
 
 // One numbered refusal with its place.
-#[derive(Drop)]
+#[derive(Clone, Copy)]
 pub struct Refusal {
     pub number: u8,
     pub at: usize,

@@ -1,4 +1,7 @@
 // From the bytes of a text to the expression that it means, or to the first of refusals 1 to 6.
+
+#![tactic(auto)]
+
 mod readers;
 mod scan;
 
@@ -13,14 +16,14 @@ use terms::{LONGEST_TEXT, MOST_LITERALS, Refusal};
 
 // What reading a text answers: how many literals the slices hold, with the root in the slot of twice that number less two;
 // or the first of refusals 1 to 6.
-#[derive(Drop)]
+#[derive(Clone, Copy)]
 pub enum Reading {
     Held(usize),
     Refused(Refusal),
 }
 
 // Whether one of refusals 1 to 4 is given.
-#[derive(Drop)]
+#[derive(Clone, Copy)]
 enum Early {
     Passed,
     Refused(Refusal),

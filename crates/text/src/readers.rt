@@ -13,21 +13,21 @@ use grammar::{OF_PRODUCTS, OF_SUMS, Operator, Sign, is_close, is_digit, is_open,
 use terms::Primitive;
 
 // The next place in the text and the next free slot; or the place where no ending completes the beginning.
-#[derive(Drop)]
+#[derive(Clone, Copy)]
 pub enum Part {
     At(usize, usize),
     Fault(usize),
 }
 
 // Where an operand is to stand, and the sense that it is read in.
-#[derive(Drop)]
+#[derive(Clone, Copy)]
 struct Operand {
     at: usize,
     sense: bool,
 }
 
 // A number, and the place behind it.
-#[derive(Drop)]
+#[derive(Clone, Copy)]
 struct Numeral {
     value: Primitive,
     next: usize,

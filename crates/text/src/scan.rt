@@ -17,7 +17,7 @@ use grammar::{Sign, is_close, is_digit, is_open, is_other, sign_of};
 use terms::{DEEPEST, GREATEST_PRIMITIVE, MOST_DIGITS, MOST_LITERALS};
 
 // A place in a text, if there is one.
-#[derive(Drop)]
+#[derive(Clone, Copy)]
 pub enum Found {
     At(usize),
     Nowhere,
@@ -53,7 +53,7 @@ pub fn foreign(text: &[u8]) -> Found
 }
 
 // A run of digits: where it ends, and whether it has too many digits or too great a value.
-#[derive(Drop)]
+#[derive(Clone, Copy)]
 struct DigitRun {
     end: usize,
     large: bool,
@@ -216,7 +216,7 @@ pub fn surplus(text: &[u8]) -> Found
 }
 
 // Where a reader stands: an operand is wanted, or it is inside a number, or an operand is complete.
-#[derive(Drop)]
+#[derive(Clone, Copy)]
 pub enum Mode {
     Wanted,
     Inside,
@@ -224,14 +224,14 @@ pub enum Mode {
 }
 
 // What a sign leads to: nothing that any ending completes, or a mode with so many parentheses open.
-#[derive(Drop)]
+#[derive(Clone, Copy)]
 pub enum Step {
     Stuck,
     Go(Mode, usize),
 }
 
 // Whether a text is a sum by the grammar, and if not, the length of its longest beginning that some ending completes.
-#[derive(Drop)]
+#[derive(Clone, Copy)]
 pub enum Verdict {
     Fits,
     Fault(usize),

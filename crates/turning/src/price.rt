@@ -5,7 +5,7 @@ ghost use Rattle.turning.specs.Tags.{leaf, priced, row, smaller, greatest};
 ghost use Rattle.turning.specs.Code.Coded.{with_costs, meant, joining, Small};
 
 // A mark and three costs.
-#[derive(Drop)]
+#[derive(Clone, Copy)]
 pub struct Tag {
     pub mark: bool,
     pub costs: [u16; 3],

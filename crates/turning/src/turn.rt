@@ -10,7 +10,7 @@ use crate::price::Tag;
 use formula::Kind;
 
 // The tag that is kept, and whether it is that of the exchanged order.
-#[derive(Drop)]
+#[derive(Clone, Copy)]
 pub struct Settled {
     pub tag: Tag,
     pub exchanged: bool,

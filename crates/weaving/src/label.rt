@@ -9,7 +9,7 @@ use crate::{label_store, lay};
 use terms::{FIRST_LABEL, Label, Place};
 
 // The labels of True and False.
-#[derive(Drop)]
+#[derive(Clone, Copy)]
 pub struct Ends {
     pub on_true: Label,
     pub on_false: Label,

@@ -5,7 +5,7 @@ ghost use Rattle.weaving.specs.Code.Kept.{label_room, Free, SomeFree, Emptied, C
 
 use terms::Label;
 
-#[derive(Drop)]
+#[derive(Clone, Copy)]
 pub struct Store {
     pub free: u16,
 }

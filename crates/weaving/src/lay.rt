@@ -9,7 +9,7 @@ use formula::Kind;
 use terms::{Place, Primitive};
 
 // The slots of an operator's operands, in the order of the gates.
-#[derive(Drop)]
+#[derive(Clone, Copy)]
 pub struct Operands {
     pub first: usize,
     pub second: usize,
