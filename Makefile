@@ -18,7 +18,7 @@ MAJOR := $(word 1,$(subst ., ,$(VERSION)))
 MINOR := $(word 2,$(subst ., ,$(VERSION)))
 # libraries with the same two numbers read a text alike, so that one may stand in for the other
 SERIES := $(MAJOR).$(MINOR)
-SOURCES := $(shell find crates -name '*.rt' -o -name '*.antt') crates.txt
+SOURCES := $(shell find crates -name out -prune -o \( -name '*.rt' -o -name '*.antt' \) -print) crates.txt
 LIBRARY := target/staticlib/libblist.a
 LISTING := target/bin/list
 MANUAL := target/man/list.1 target/man/blist.3
@@ -31,12 +31,15 @@ INSTALLED := include/blist.h lib/libblist.a lib/pkgconfig/blist.pc lib/cmake/bli
 all: $(LIBRARY)
 
 $(LIBRARY): $(SOURCES)
-	rt staticlib blist
-	@touch $@
+	@mkdir -p $(@D) target/log
+	cd crates/blist_c && rt lib > ../../target/log/blist_c.log 2>&1 || { cat ../../target/log/blist_c.log; exit 1; }
+	cp crates/blist_c/out/libblist_c.a $@
 
-$(LISTING): $(SOURCES)
-	rt check list
-	@touch $@
+# a program of the folder crates: rt builds what it proves when it runs it, here on no input
+target/bin/%: $(SOURCES)
+	@mkdir -p $(@D) target/log
+	cd crates/$* && rt run < /dev/null > ../../target/log/$*.log 2>&1 || { cat ../../target/log/$*.log; exit 1; }
+	cp crates/$*/out/$* $@
 
 $(SHARED): $(LIBRARY)
 	$(CC) -shared -Wl,--whole-archive $< -Wl,--no-whole-archive -Wl,-z,defs -Wl,-soname,libblist.so.$(SERIES) -o $@
@@ -45,8 +48,8 @@ target/man/%: include/man.sh include/blist.h list
 	@mkdir -p $(@D)
 	sh include/man.sh $(@F) $(VERSION) > $@
 
-check: $(LIBRARY) $(LISTING)
-	rt check
+check: $(LIBRARY) $(LISTING) target/bin/examples
+	rt all check
 	for test in tests/[0-9]*.sh; do echo "== $$test"; bash $$test || exit 1; done
 
 install: $(LIBRARY) $(LISTING) $(MANUAL)
@@ -74,7 +77,7 @@ pictures: $(LIBRARY)
 	bash examples/c/pictures.sh docs/pictures
 
 clean:
-	rm -rf target second/target second/compare/target examples/rust/target
+	rm -rf target crates/*/out second/target second/compare/target examples/rust/target
 
 help:
 	@sed -n '2,/^# PREFIX/s/^# \{0,1\}//p' Makefile

@@ -119,7 +119,7 @@ mkdir -p "$work/fake" "$work/bare"
 printf '#!/bin/sh\necho "the words of the prover"\necho "rt: list NOT PROVED (exit 1, 0 s)"\nexit 1\n' > "$work/fake/rt"
 chmod +x "$work/fake/rt"
 cp list crates.txt "$work/bare"
-mkdir -p "$work/bare/crates"
+mkdir -p "$work/bare/crates/list"
 got=0
 refused > "$work/out" 2> "$work/err" || got=$?
 if [ "$got" != 2 ] || [ -s "$work/out" ] || ! grep -q '^the words of the prover$' "$work/err"; then

@@ -3,7 +3,7 @@
 # pushed, and what the stack pointer is lowered by. Not in the gate.
 set -euo pipefail
 cd "$(dirname "$0")/.."
-[ -e target/staticlib/libblist.a ] || rt staticlib blist > /dev/null
+[ -e target/staticlib/libblist.a ] || make --silent
 objdump -d --no-show-raw-insn "${1:-target/staticlib/libblist.a}" | awk '
     function bytes(hex,  n, k) {
         for (k = 4; k <= length(hex); k++) n = 16 * n + index("0123456789abcdef", substr(hex, k, 1)) - 1

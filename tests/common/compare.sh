@@ -7,7 +7,7 @@
 build_compare() {
     if [ -z "${BLIST_LIBRARY:-}" ]; then
         BLIST_LIBRARY=$PWD/target/staticlib
-        [ -e "$BLIST_LIBRARY/libblist.a" ] || rt staticlib blist
+        [ -e "$BLIST_LIBRARY/libblist.a" ] || make --silent
     fi
     export BLIST_LIBRARY
     CARGO86 build --release --offline --quiet --features library --manifest-path second/compare/Cargo.toml
