@@ -60,7 +60,7 @@ for expected in "$work"/*.expected; do
 done
 
 # a theorem that a page cites is there
-grep -oh '`[a-z-]*` in \[crates/[^]]*\]' docs/refusals/*.md | sed 's/`\(.*\)` in \[\(.*\)\]/\1 \2/' | while read -r theorem file; do
+grep -oh '`[a-z_-]*` in \[crates/[^]]*\]' docs/refusals/*.md | sed 's/`\(.*\)` in \[\(.*\)\]/\1 \2/' | while read -r theorem file; do
     grep -q "^ *pub $theorem : " "$file" || { echo "pages: $file has no $theorem"; exit 1; }
 done
 echo "pages: $ran examples ok"

@@ -6,7 +6,7 @@ import re
 
 WORDS = re.compile(r'[^\s(){}\[\],;λ]+')
 MODIFIERS = {'pub', 'abbrev', 'unfoldable', 'private'}
-SPECS = re.compile(r'^use Rattle·([a-z]+)(?:·(?:specs|proofs))?\.specs\.([^\s{]+?)(?:\.\{(.*)\}| as (\S+))?$', re.S)
+SPECS = re.compile(r'^use Rattle\.([a-z_]+)\.specs\.([^\s{]+?)(?:\.\{(.*)\}| as (\S+))?$', re.S)
 
 
 def words(text):
@@ -93,6 +93,8 @@ class File:
         if not match:
             return
         crate, module, names, alias = match.groups()
+        if not os.path.isdir(os.path.join('crates', crate)):
+            return  # of the language's library
         if names is None:
             self.aliases[alias or module.split('.')[-1]] = (crate, module)
             return

@@ -1,4 +1,4 @@
-"""Counts the lines of definitions that the promises rest on. A promise is a theorem in crates/promises/proofs; proofs/laws holds
+"""Counts the lines of definitions that the promises rest on. A promise is a theorem in crates/promises/proofs; proofs/Laws holds
 what they cite. A definition counts when a promise's statement names it, or a definition that counts does; a record or a data
 type counts whole. Comments, blank lines and imports do not count."""
 import collections
@@ -106,8 +106,8 @@ def allowed(what):
 def main():
     names = {path: os.path.basename(path)[:-len('.antt')] for path in sorted(glob.glob(f'{PROMISES}/*.antt'))}
     files = [path for path, name in names.items() if name not in TRIALS]
-    demands, _ = closure([path for path in files if names[path] == DEMANDS], ['/specs/twins/'])
-    believed, declared = closure(files, ['/specs/twins/'])
+    demands, _ = closure([path for path in files if names[path] == DEMANDS], ['/specs/Twins/'])
+    believed, declared = closure(files, ['/specs/Twins/'])
     everything, _ = closure(files, [])
     columns = [by_crate(reached) for reached in (demands, believed, everything)]
     print('definitions in lines:      demands  all promises  with the twins that a theorem ties to them')
@@ -118,7 +118,7 @@ def main():
     if '--names' in sys.argv:
         show(believed)
         print('declared by the code:', ', '.join(sorted(declared)))
-    hidden = sorted(f'{path}: {name}' for path, name in everything if '/specs/code/' in path)
+    hidden = sorted(f'{path}: {name}' for path, name in everything if '/specs/Code/' in path)
     if hidden:
         sys.exit('belief: promises rest on definitions that are for the code alone:\n  ' + '\n  '.join(hidden))
     for what, total in (('demands', totals[0]), ('promises', totals[1])):

@@ -22,7 +22,7 @@ def definitions():
         with open(path, encoding='utf-8') as source:
             text = source.read()
         lists = all(line.startswith(('pub mod ', '--')) for line in text.splitlines() if line)
-        if '/specs/code/' not in path and not lists:
+        if '/specs/Code/' not in path and not lists:
             yield path, text
 
 

@@ -1,10 +1,10 @@
-// The functions for a viewer in C or Rust. Each takes the enum of an entry point apart and returns one plain struct:
+// The functions for a viewer in C or Rust, which crates/blist_c exports. Each takes the enum of an entry point apart and returns one plain struct:
 // a refusal's number, nought for none, with its place, and the values of the result; nought where a field has no meaning.
 
 #![tactic(auto)]
 
 ghost use Rattle.std.specs.Prelude.{◌≡◌, cond};
-ghost use Rattle.terms.specs.Answer.{result, refused};
+ghost use Rattle.terms.specs.Answer as answer;
 ghost use Rattle.blist.specs.Plain.{plain_run, plain_truth, plain_counts, plain_record, plain_ends, version, CompileRight, StartRight, FeedRight, AnswerRight, HeaderRight, GateRight, EndsRight};
 ghost use Rattle.table.specs.Shown.{shown_header, shown_gate, shown_end};
 ghost use Rattle.run.specs.Shown.{shown_run};
@@ -75,7 +75,7 @@ pub struct PlainEnds {
 }
 
 fn table_fields(refusal: u8, at: usize, length: usize) -> PlainTable
-    ensures* { λ r. ⌜ r ≡ record { refusal = refusal; at = at; length = length } ⌝ }
+    ensures { result ≡ record { refusal = refusal; at = at; length = length } }
 {
     PlainTable {
         refusal,
@@ -85,7 +85,7 @@ fn table_fields(refusal: u8, at: usize, length: usize) -> PlainTable
 }
 
 fn run_fields(refusal: u8, at: usize, gate: usize, label: u8) -> PlainRun
-    ensures* { λ r. ⌜ r ≡ record { refusal = refusal; at = at; gate = gate; label = label } ⌝ }
+    ensures { result ≡ record { refusal = refusal; at = at; gate = gate; label = label } }
 {
     PlainRun {
         refusal,
@@ -97,7 +97,7 @@ fn run_fields(refusal: u8, at: usize, gate: usize, label: u8) -> PlainRun
 
 // A run that goes on.
 fn going(run: Run) -> PlainRun
-    ensures* { λ r. ⌜ r ≡ plain_run 0 0 (result (shown_run run)) ⌝ }
+    ensures { result ≡ plain_run 0 0 (answer.result (shown_run run)) }
 {
     let label = run.label;
     run_fields(0, 0, run.gate, label.0)
@@ -105,21 +105,21 @@ fn going(run: Run) -> PlainRun
 
 // A refusal, with the gate number and the label to be shown beside it.
 fn held_up(refusal: Refusal, gate: usize, label: u8) -> PlainRun
-    ensures* { λ r. ⌜ r ≡ plain_run gate label (refused refusal.number refusal.at) ⌝ }
+    ensures { result ≡ plain_run gate label (answer.refused refusal.number refusal.at) }
 {
     run_fields(refusal.number, refusal.at, gate, label)
 }
 
 // A truth as a byte.
 fn byte_of(truth: bool) -> u8
-    ensures* { λ r. ⌜ r ≡ cond truth 1 0 ⌝ }
+    ensures { result ≡ cond truth 1 0 }
 {
     if truth { 1 } else { 0 }
 }
 
 // A run that has ended on a truth.
 fn ended_on(truth: bool) -> PlainTruth
-    ensures* { λ r. ⌜ r ≡ plain_truth (result truth) ⌝ }
+    ensures { result ≡ plain_truth (answer.result truth) }
 {
     PlainTruth {
         refusal: 0,
@@ -130,7 +130,7 @@ fn ended_on(truth: bool) -> PlainTruth
 
 // A refusal in the place of a truth.
 fn unanswered(refusal: Refusal) -> PlainTruth
-    ensures* { λ r. ⌜ r ≡ plain_truth (refused refusal.number refusal.at) ⌝ }
+    ensures { result ≡ plain_truth (answer.refused refusal.number refusal.at) }
 {
     PlainTruth {
         refusal: refusal.number,
@@ -141,7 +141,7 @@ fn unanswered(refusal: Refusal) -> PlainTruth
 
 // What a header says, with the label that a run starts on.
 fn counted(header: Header) -> PlainCounts
-    ensures* { λ r. ⌜ r ≡ plain_counts (result (shown_header header)) ⌝ }
+    ensures { result ≡ plain_counts (answer.result (shown_header header)) }
 {
     PlainCounts {
         refusal: 0,
@@ -153,7 +153,7 @@ fn counted(header: Header) -> PlainCounts
 }
 
 fn uncounted(refusal: Refusal) -> PlainCounts
-    ensures* { λ r. ⌜ r ≡ plain_counts (refused refusal.number refusal.at) ⌝ }
+    ensures { result ≡ plain_counts (answer.refused refusal.number refusal.at) }
 {
     PlainCounts {
         refusal: refusal.number,
@@ -166,7 +166,7 @@ fn uncounted(refusal: Refusal) -> PlainCounts
 
 // What a gate's record says.
 fn recorded(gate: Gate) -> PlainRecord
-    ensures* { λ r. ⌜ r ≡ plain_record (result (shown_gate gate)) ⌝ }
+    ensures { result ≡ plain_record (answer.result (shown_gate gate)) }
 {
     let primitive = gate.primitive;
     let own = gate.own;
@@ -184,7 +184,7 @@ fn recorded(gate: Gate) -> PlainRecord
 }
 
 fn unrecorded(refusal: Refusal) -> PlainRecord
-    ensures* { λ r. ⌜ r ≡ plain_record (refused refusal.number refusal.at) ⌝ }
+    ensures { result ≡ plain_record (answer.refused refusal.number refusal.at) }
 {
     PlainRecord {
         refusal: refusal.number,
@@ -199,7 +199,7 @@ fn unrecorded(refusal: Refusal) -> PlainRecord
 
 // What the last record says.
 fn ending(end: End) -> PlainEnds
-    ensures* { λ r. ⌜ r ≡ plain_ends (result (shown_end end)) ⌝ }
+    ensures { result ≡ plain_ends (answer.result (shown_end end)) }
 {
     let on_true = end.on_true;
     let on_false = end.on_false;
@@ -212,7 +212,7 @@ fn ending(end: End) -> PlainEnds
 }
 
 fn unending(refusal: Refusal) -> PlainEnds
-    ensures* { λ r. ⌜ r ≡ plain_ends (refused refusal.number refusal.at) ⌝ }
+    ensures { result ≡ plain_ends (answer.refused refusal.number refusal.at) }
 {
     PlainEnds {
         refusal: refusal.number,
@@ -223,9 +223,8 @@ fn unending(refusal: Refusal) -> PlainEnds
 }
 
 // Compiles a text to a table at the start of the lent buffer; a refusal leaves the buffer as it was.
-#[unsafe(no_mangle)]
-pub extern "C" fn blist_compile(text: &[u8], out: &mut [u8]) -> PlainTable
-    ensures* { λ r. ⌜ CompileRight text.now out.old out.new r ⌝ }
+pub fn blist_compile(text: &[u8], out: &mut [u8]) -> PlainTable
+    ensures { CompileRight text.now out.old out.new result }
 {
     match compiler::compile(text, out) {
         Compiled::Table(length) => table_fields(0, 0, length),
@@ -234,9 +233,8 @@ pub extern "C" fn blist_compile(text: &[u8], out: &mut [u8]) -> PlainTable
 }
 
 // Starts a run over a table that may have come from anywhere.
-#[unsafe(no_mangle)]
-pub extern "C" fn blist_start(table: &[u8]) -> PlainRun
-    ensures* { λ r. ⌜ StartRight table.now r ⌝ }
+pub fn blist_start(table: &[u8]) -> PlainRun
+    ensures { StartRight table.now result }
 {
     match run::start(table) {
         Started::Run(run) => going(run),
@@ -245,9 +243,8 @@ pub extern "C" fn blist_start(table: &[u8]) -> PlainRun
 }
 
 // Feeds a run the truth of its gate's primitive: nought is false, all else true. A refused feed shows the run handed in.
-#[unsafe(no_mangle)]
-pub extern "C" fn blist_feed(gate: usize, label: u8, table: &[u8], truth: u8) -> PlainRun
-    ensures* { λ r. ⌜ FeedRight gate label table.now truth r ⌝ }
+pub fn blist_feed(gate: usize, label: u8, table: &[u8], truth: u8) -> PlainRun
+    ensures { FeedRight gate label table.now truth result }
 {
     let held = Run {
         gate,
@@ -260,9 +257,8 @@ pub extern "C" fn blist_feed(gate: usize, label: u8, table: &[u8], truth: u8) ->
 }
 
 // Asks a run that has passed every gate for its truth.
-#[unsafe(no_mangle)]
-pub extern "C" fn blist_answer(gate: usize, label: u8, table: &[u8]) -> PlainTruth
-    ensures* { λ r. ⌜ AnswerRight gate label table.now r ⌝ }
+pub fn blist_answer(gate: usize, label: u8, table: &[u8]) -> PlainTruth
+    ensures { AnswerRight gate label table.now result }
 {
     let held = Run {
         gate,
@@ -275,9 +271,8 @@ pub extern "C" fn blist_answer(gate: usize, label: u8, table: &[u8]) -> PlainTru
 }
 
 // Reads what a table says of itself as a whole: its gates, its label count, and the label that a run starts on.
-#[unsafe(no_mangle)]
-pub extern "C" fn blist_header(table: &[u8]) -> PlainCounts
-    ensures* { λ r. ⌜ HeaderRight table.now r ⌝ }
+pub fn blist_header(table: &[u8]) -> PlainCounts
+    ensures { HeaderRight table.now result }
 {
     match run::header_read(table) {
         HeaderRead::Header(header) => counted(header),
@@ -286,9 +281,8 @@ pub extern "C" fn blist_header(table: &[u8]) -> PlainCounts
 }
 
 // Reads the record of a gate.
-#[unsafe(no_mangle)]
-pub extern "C" fn blist_gate(table: &[u8], gate: usize) -> PlainRecord
-    ensures* { λ r. ⌜ GateRight table.now gate r ⌝ }
+pub fn blist_gate(table: &[u8], gate: usize) -> PlainRecord
+    ensures { GateRight table.now gate result }
 {
     match run::gate_read(table, gate) {
         GateRead::Record(record) => recorded(record),
@@ -297,9 +291,8 @@ pub extern "C" fn blist_gate(table: &[u8], gate: usize) -> PlainRecord
 }
 
 // Reads the labels of the two ends.
-#[unsafe(no_mangle)]
-pub extern "C" fn blist_ends(table: &[u8]) -> PlainEnds
-    ensures* { λ r. ⌜ EndsRight table.now r ⌝ }
+pub fn blist_ends(table: &[u8]) -> PlainEnds
+    ensures { EndsRight table.now result }
 {
     let gates = match run::header_read(table) {
         HeaderRead::Refused(refusal) => return unending(refusal),
@@ -312,9 +305,8 @@ pub extern "C" fn blist_ends(table: &[u8]) -> PlainEnds
 }
 
 // The version of this library, which the header's macros repeat.
-#[unsafe(no_mangle)]
-pub extern "C" fn blist_version() -> u32
-    ensures* { λ r. ⌜ r ≡ version ⌝ }
+pub fn blist_version() -> u32
+    ensures { result ≡ version }
 {
     10101
 }

@@ -6,6 +6,7 @@
 ghost use Rattle.std.specs.Prelude.{◌≡◌, ◌+◌, ◌*◌, ◌≤◌};
 
 use compiler::Compiled;
+use std::io::{Print, Read, Stdin, Stdout};
 use terms::Refusal;
 
 // What every byte of a buffer holds before it is lent.
@@ -29,22 +30,22 @@ fn number(low: u8, high: u8) -> usize
 }
 
 // Fills the first n bytes of the buffer, and answers whether there was room and the input had as many.
-fn fill(buffer: &mut [u8], n: usize) -> bool {
+fn fill(input: &mut Stdin, buffer: &mut [u8], n: usize) -> bool {
     if n <= buffer.len() {
-        return io::read_full(0, &mut buffer[0..n]) == n;
+        return input.read_exact(&mut buffer[0..n]).is_ok();
     }
     false
 }
 
 // Takes the next record: its text to the front of one buffer, and its answer to the front of the other.
-fn take(text: &mut [u8; 16385], answer: &mut [u8; 6151]) -> Lengths {
+fn take(input: &mut Stdin, text: &mut [u8; 16385], answer: &mut [u8; 6151]) -> Lengths {
     let mut head = [0u8; 6];
-    let headed = fill(&mut head, 6);
+    let headed = fill(input, &mut head, 6);
     let long = number(head[0], head[1]);
     let room = number(head[2], head[3]);
     let due = number(head[4], head[5]);
-    let texted = fill(text, long);
-    let answered = fill(answer, due);
+    let texted = fill(input, text, long);
+    let answered = fill(input, answer, due);
     Lengths {
         whole: headed && texted && answered,
         text: long,
@@ -77,7 +78,7 @@ fn is_blank(out: &[u8], from: usize) -> bool {
 // Whether the buffer holds the table that is due, of n bytes, and is blank behind it.
 fn table_agrees(n: usize, due: &[u8], out: &[u8]) -> bool {
     if n <= out.len() {
-        return check::same(&out[0..n], due) && is_blank(out, n);
+        return &out[0..n] == due && is_blank(out, n);
     }
     false
 }
@@ -111,22 +112,32 @@ fn record_agrees(lengths: Lengths, text: &[u8], answer: &[u8], out: &mut [u8]) -
     false
 }
 
-fn say_different(text: u64) {
-    io::write_all(1, b"corpus: text ");
-    io::print_decimal(1, text);
-    io::write_all(1, b" differs\n");
+// Writes the bytes. What standard output does not take is lost.
+fn put(output: &Stdout, bytes: &[u8]) {
+    let _ = output.write_all(bytes);
 }
 
-fn say_counts(texts: u64, differences: u64) {
-    io::write_all(1, b"corpus: ");
-    io::print_decimal(1, texts);
-    io::write_all(1, b" texts, ");
-    io::print_decimal(1, differences);
-    io::write_all(1, b" differences\n");
+fn put_number(output: &Stdout, number: u64) {
+    let _ = output.print(number);
+}
+
+fn say_different(output: &Stdout, text: u64) {
+    put(output, b"corpus: text ");
+    put_number(output, text);
+    put(output, b" differs\n");
+}
+
+fn say_counts(output: &Stdout, texts: u64, differences: u64) {
+    put(output, b"corpus: ");
+    put_number(output, texts);
+    put(output, b" texts, ");
+    put_number(output, differences);
+    put(output, b" differences\n");
 }
 
 // Compares one record, and answers how many differences there are: none or one.
 fn compare(
+    output: &Stdout,
     lengths: Lengths,
     number: u64,
     text: &[u8; 16385],
@@ -138,28 +149,35 @@ fn compare(
     if record_agrees(lengths, text, answer, out) {
         return 0;
     }
-    say_different(number);
+    say_different(output, number);
     1
 }
 
 // Compares record after record to the end of the input, and writes the counts.
-fn compare_all(text: &mut [u8; 16385], answer: &mut [u8; 6151], out: &mut [u8; 6151]) {
+fn compare_all(
+    input: &mut Stdin,
+    output: &Stdout,
+    text: &mut [u8; 16385],
+    answer: &mut [u8; 6151],
+    out: &mut [u8; 6151],
+) {
     let mut texts = 0;
     let mut differences = 0;
     while texts < 1000000 {
-        let lengths = take(text, answer);
+        let lengths = take(input, text, answer);
         if !lengths.whole {
             break;
         }
         texts += 1;
-        differences += compare(lengths, texts, text, answer, out);
+        differences += compare(output, lengths, texts, text, answer, out);
     }
-    say_counts(texts, differences);
+    say_counts(output, texts, differences);
 }
 
-fn main() {
+fn main(rt: HostRuntime) {
     let mut text = [0u8; 16385];
     let mut answer = [0u8; 6151];
     let mut out = [0u8; 6151];
-    compare_all(&mut text, &mut answer, &mut out);
+    let mut input = rt.stdin();
+    compare_all(&mut input, &rt.stdout(), &mut text, &mut answer, &mut out);
 }

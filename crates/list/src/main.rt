@@ -8,7 +8,8 @@ ghost use Rattle.listing.specs.Code.Written.{Printed};
 ghost use Rattle.list.specs.Listed.{roomy, listed};
 
 use compiler::Compiled;
-use libc::{STDERR_FILENO, STDIN_FILENO, STDOUT_FILENO};
+use std::io;
+use std::io::{Print, Read, Stdin};
 
 // The lines of the text into `out`, with room for its table. Answers how many bytes they are.
 fn listed(text: &[u8], table: &mut [u8], out: &mut [u8; 32768]) -> usize
@@ -29,35 +30,43 @@ struct Input {
 }
 
 // Reads standard input to its end, or until the buffer is full. A read that gives nothing is the end, and none comes after it.
-fn read_in(text: &mut [u8]) -> Input
+fn read_in(input: &mut Stdin, text: &mut [u8]) -> Input
     ensures { IsPrefixLen result.length text.new }
 {
     let mut length = 0;
     let mut failed = false;
     while length < text.len() {
-        let got = libc::read(STDIN_FILENO, &mut text[length..]);
-        let more = io::count(got, &text[length..]);
-        if more == 0 {
-            failed = got < 0;
-            break;
+        match input.read(&mut text[length..]) {
+            Ok(more) => {
+                if more == 0 {
+                    break;
+                }
+                length += more;
+            }
+            Err(_) => {
+                failed = true;
+                break;
+            }
         }
-        length += more;
     }
     Input { length, failed }
 }
 
-fn main() {
+fn main(rt: HostRuntime) -> io::Result<()> {
     let mut text = [0u8; 16385];
-    let read = read_in(&mut text);
+    let mut input = rt.stdin();
+    let read = read_in(&mut input, &mut text);
     if read.failed {
-        io::write_all(STDERR_FILENO, b"list: cannot read standard input\n");
-        return;
+        return rt.stderr().write_all(b"list: cannot read standard input\n");
     }
     let n = read.length;
     let mut table = [0u8; 6151];
     let mut out = [0u8; 32768];
     let m = listed(&text[..n], &mut table, &mut out);
-    if !io::write_all(STDOUT_FILENO, &out[..m]) {
-        io::write_all(STDERR_FILENO, b"list: cannot write standard output\n");
+    if rt.stdout().write_all(&out[..m]).is_err() {
+        return rt
+            .stderr()
+            .write_all(b"list: cannot write standard output\n");
     }
+    Ok(())
 }

@@ -12,7 +12,7 @@
 // What tries the definitions, and promises nothing more: proofs/Examples.antt (the marked examples), Binding.antt (what request 1 left
 // as it was, against the binding of `-` that is gone), Slips.antt and Controls.antt (definitions gone wrong, and that they are right
 // with the right choice), Neighbours.antt (false statements next to the demands), WrongPrograms.antt, Never.antt (a refusal that is
-// never given). What they alone use is in specs/examples.
-// The laws behind all of them are in proofs/laws.
+// never given). What they alone use is in specs/Examples.
+// The laws behind all of them are in proofs/Laws.
 
 #![tactic(auto)]
