@@ -11,7 +11,8 @@ use lib.Seq.{get_or-set_same, get_or-set_other}
 use Rattle.terms.specs.Terms.{most_literals}
 use Rattle.formula.specs.Formula.{Literal, Kind, union, intersection, Expr, literal, join}
 use Rattle.formula.specs.Marks.{placed, arranged}
-use Rattle.formula.specs.Code.Held.{nodes, node_kind, is_leaf, operator_kind, Joint, Holds, leaf, joint}
+use Rattle.formula.specs.declared.Node.{Node}
+use Rattle.formula.specs.Code.Held.{nodes, node_kind, node_at, is_leaf, operator_kind, Joint, Holds, leaf, joint}
 use Rattle.formula.specs.Code.Marked as marked
 use Rattle.formula.specs.Code.Marked.{mark_byte, Marked}
 use Rattle.formula.proofs.Held.{nodes_literals, nodes_some, holds_within, holds_span_within, holds_fits, holds_span}
@@ -52,6 +53,10 @@ leaf_operator intersection = refl
 -- the slot of the left operand
 abbrev pub left_of : List ℕ → ℕ → ℕ
 left_of ss i = i - 1 - get_or ss (i - 1) 0
+
+-- where a slot's node tells whether a literal stands there, the slot's number tells the same
+pub tested : (ks ss : List ℕ) (i : ℕ) {n : Node} {b : Bool} → b ≡ is_leaf n.kind → n ≡ node_at ks ss i → is_leaf (node_kind (get_or ks i 0)) ≡ b
+tested ks ss i e en = sym (e ∙ ap (λ (n : Node). is_leaf n.kind) en)
 
 pub site_within : (ks ss : List ℕ) (i : ℕ) → Site ks ss i → (i < length ks) × (i < length ss)
 site_within ks ss i s = (holds_within s.held.holds, holds_span_within s.held.holds)

@@ -117,13 +117,13 @@ module _ (a : Bool) (g : ℕ → Gap) where
   left_gaps : (n : ℕ) → Left a (most neither g n) (most one g n) (most both g n)
       (most neither (λ k. on_left a (g k)) n) (most one (λ k. on_left a (g k)) n) (most both (λ k. on_left a (g k)) n)
   unfolding greatest_below
-  left_gaps zero = elim a [ true ↦ omega arith | false ↦ omega arith ]
+  left_gaps zero = elim a as (λ (t : Bool). Left t 0 0 0 0 0 0) [ true ↦ omega arith | false ↦ omega arith ]
   left_gaps (suc n) = left_more (g n).count a (g n).sort (left_gaps n)
 
   right_gaps : (n : ℕ) → Right a (most neither g n) (most one g n) (most both g n)
       (most neither (λ k. on_right a (g k)) n) (most one (λ k. on_right a (g k)) n) (most both (λ k. on_right a (g k)) n)
   unfolding greatest_below
-  right_gaps zero = elim a [ true ↦ omega arith | false ↦ omega arith ]
+  right_gaps zero = elim a as (λ (t : Bool). Right t 0 0 0 0 0 0) [ true ↦ omega arith | false ↦ omega arith ]
   right_gaps (suc n) = right_more (g n).count a (g n).sort (right_gaps n)
 
 -- the gaps of an expression

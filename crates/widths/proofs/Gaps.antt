@@ -106,7 +106,7 @@ exits_left {n} {x} u m p h =
     record {
       beyond = λ v. either (λ q. m ≤ q) v (omega (arith, h.beyond v)) (omega arith);
       below = λ v. either (λ q. q < n) v (h.below v) (omega (arith, h.beyond v, h.below v));
-      apart = elim u [ true ↦ λ e. omega (arith, h.beyond true) | false ↦ λ e. omega (arith, h.beyond false) ];
+      apart = elim u as (λ (t : Bool). kept t m x false ≡ kept t m x true → ⊥) [ true ↦ λ e. omega (arith, h.beyond true) | false ↦ λ e. omega (arith, h.beyond false) ];
     }
   where
     either : (P : Place → Type 0) (v : Bool) → P (x v) → P m → P (kept u m x v)

@@ -1,0 +1,7 @@
+-- `turn` turns both operands, which leaves their marks behind them and the tree as it was, and then settles the operator and puts
+-- its mark into its own slot; what falls is the subtree's size, which its slot tells.
+use Rattle.std.proofs.Common.{get_or}
+use Rattle.turning.proofs.turn.+turn.Given as goal
+
+abbrev pub decreases-turn : goal.decreases-turn
+decreases-turn l = get_or l.spans.now l.i 0
