@@ -27,7 +27,7 @@ use Rattle.table.specs.declared.CheckedEnd.{CheckedEnd}
 use Rattle.table.proofs.Steps.{asked_no, asked_yes}
 use Rattle.table.proofs.Tested.{no_frame_fault}
 use Rattle.table.proofs.Whole.{nought_one, Fit, gate_at_fault, gate_is_right, end_at_fault, end_is_right}
-use Rattle.run.specs.Run.{Run, stepped, moved}
+use Rattle.run.specs.Run.{stepped, moved}
 use Rattle.run.specs.Twins.Answers.{gate_read, started, fed, answered, ended}
 use Rattle.run.specs.Shown.{shown_run, shown_header_read, shown_gate_read, shown_end_read, shown_answered, HeaderReadRight, GateReadRight, EndReadRight, StartedRight, FedRight, AnsweredRight}
 use Rattle.run.specs.declared.Run as coded
