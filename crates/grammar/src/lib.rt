@@ -28,6 +28,7 @@ pub enum Sign {
     Other,
 }
 
+#[tactic(auto, unfolding(crate::specs::Bytes::sign_of))]
 pub fn sign_of(byte: u8) -> Sign
     ensures { result ≡ sign_of byte }
 {
