@@ -1,0 +1,34 @@
+-- `finish` decides 7 by the greatest cost, which is the number of labels, and 8 by the length, and then weaves.
+use Rattle.std.proofs.Common.{arith}
+use Rattle.compiler.proofs.Sites.{tree_some, price_site, labels_needed, weave_room, finished_7, finished_8, finished_table}
+use Rattle.compiler.proofs.finish.Goals as goal
+
+pub root-requires : goal.root-requires
+root-requires c = tree_some c.requires.held
+
+pub price_by-tag-requires : goal.price_by-tag-requires
+price_by-tag-requires c = price_site c.requires c.root.ensures
+
+pub returns-then-labels : goal.returns-then-labels
+returns-then-labels c =
+    finished_7
+    (labels_needed c.args.n c.greatest-labels.result c.root.ensures c.price_by-tag.ensures (c.greatest-labels.ensures c.price_by-tag.result.mark))
+    c.if-labels.true
+
+pub returns-then-out-length : goal.returns-then-out-length
+returns-then-out-length c =
+    finished_8
+    (labels_needed c.args.n c.greatest-labels.result c.root.ensures c.price_by-tag.ensures (c.greatest-labels.ensures c.price_by-tag.result.mark))
+    c.table_length-length.result c.table_length-length.ensures c.if-labels.false c.if-out-length.true
+
+pub weave-requires : goal.weave-requires
+weave-requires c =
+    weave_room c.requires
+    (labels_needed c.args.n c.greatest-labels.result c.root.ensures c.price_by-tag.ensures (c.greatest-labels.ensures c.price_by-tag.result.mark))
+    c.if-labels.false (omega (arith, c.if-out-length.false, c.table_length-length.ensures))
+
+pub returns : goal.returns
+returns c =
+    finished_table
+    (labels_needed c.args.n c.greatest-labels.result c.root.ensures c.price_by-tag.ensures (c.greatest-labels.ensures c.price_by-tag.result.mark))
+    c.table_length-length.result c.table_length-length.ensures c.if-labels.false c.if-out-length.false c.weave.ensures
