@@ -67,6 +67,7 @@ joins_matched none ls Minus first_complete outer alike = both_go (both_wanted by
 joins_matched (some Plus) ls Plus plus_complete outer alike = both_go (both_wanted by_plus) outer
 joins_matched (some Plus) ls Times plus_complete outer alike = both_go (both_wanted by_plus) outer
 joins_matched (some Plus) ls Minus plus_complete outer alike = absurd (true≢false alike)
+joins_matched (some Times) ls o matched outer alike = elim matched [ ]
 joins_matched (some Minus) ls Plus minus_complete outer alike = both_go (both_wanted by_plus) outer
 joins_matched (some Minus) ls Times minus_complete outer alike = absurd (true≢false alike)
 joins_matched (some Minus) ls Minus minus_complete outer alike = both_go (both_wanted by_minus) outer
