@@ -26,7 +26,7 @@ use Rattle.grammar.specs.Twins.Reader.{of_sums, complete, means, stops, read_fro
 use Rattle.grammar.specs.Twins.Reading.{typed_reading, reading}
 use Rattle.text.specs.Code.Found.{found_as}
 use Rattle.text.specs.Code.Flat.{verdict}
-use Rattle.text.specs.Code.Readers.{Slots, slots, most_slots, Ready, SumMeans, SumStops, Built, Whole, WholeRead, form}
+use Rattle.text.specs.Code.Readers.{Slots, slots, most_slots, Ready, SumMeans, SumStops, Built, Whole, WholeRead}
 use Rattle.text.specs.Code.Answers.{Allowed, given, earlier, EarlyRight, passed, CrowdedRight, ReadRight, held}
 use Rattle.grammar.specs.Twins.Places.{sign_at}
 use Rattle.text.proofs.Flat.{fault_stops, fits_means}

@@ -25,7 +25,7 @@ use Rattle.text.proofs.ScanTests.{by_test}
 
 -- what a call hands back is read as it was
 pub handed_back : (z : ℤ) → mag z < 2 ^ 63 → to_z w64 (of_z w64 z) ≡ z
-handed_back z h = to_z-of_z (record { sfits = h })
+handed_back z h = to_z-of_z {w = w64} {z = z} (record { sfits = h })
 
 -- one byte more, at the end
 opened_more : (s : List ℕ) (b : ℕ) → opened (s ++ (b ∷ [])) ≡ opened s + one_if (is_open (sign_of b))
