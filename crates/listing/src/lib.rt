@@ -55,6 +55,7 @@ fn digit_byte(d: usize) -> u8
 }
 
 // A number's decimal digits: those of its tenth part, and then its last one.
+#[tactic(auto, using(crate::proofs::Decimals::decimal_last, crate::proofs::Decimals::length_more, crate::proofs::Decimals::one_digit))]
 fn put_digits(out: &mut [u8; 32768], at: usize, n: usize) -> usize
     requires { at + length (decimal n) ≤ 32768 }
     ensures { Written out.old out.new at (decimal n) result }
