@@ -9,7 +9,7 @@ use native.Mathlib.Nat.{not-suc-le-zero}
 use native.Mathlib.Omega.{arith}
 use lib.ListN.{length, get_or, get_or-map}
 use Rattle.terms.specs.Terms.{first_label, greatest_primitive, most_literals, most_labels}
-use Rattle.formula.specs.Formula.{Literal, Expr, literal, literals}
+use Rattle.formula.specs.Formula.{Literal, Expr, literals}
 use Rattle.formula.proofs.Small.{SmallPrimitives, one, both}
 use Rattle.weaving.specs.Gates.{in_order}
 use Rattle.weaving.specs.Labels.{weave}

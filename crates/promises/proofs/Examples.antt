@@ -1,6 +1,5 @@
 -- Every example that document 01 marks comes out as it says, and so do those of request 1: the definitions compute them. Assumes nothing.
 use mathlib.Core.Path.{refl}
-use Rattle.run.specs.Twins.Answers.{answered}
 use Rattle.promises.proofs.Laws.Computing.{computing}
 use Rattle.promises.specs.Examples.Marked.{AllAsTold, MinusAsTold, AlsoAsTold}
 

@@ -1,6 +1,6 @@
 -- `listed` prints what compile answers, and that is what the definition shows.
 use Rattle.std.proofs.Common.{refl}
-use Rattle.list.proofs.Lists.{front_within, front_listable, table_listed, refusal_listed}
+use Rattle.list.proofs.Lists.{front_listable, table_listed, refusal_listed}
 use Rattle.list.proofs.listed.Goals as goal
 
 pub print_table-requires : goal.print_table-requires
