@@ -90,6 +90,9 @@ module _ (text : List ℕ) where
   unfolding reading typed_reading
   refused_long h = rw (lt-ltb longest_text (length text) h)
 
+  pub refused_at_once : longest_text < length text → EarlyRight text (early.Refused (record { number = 1; at = longest_text }))
+  refused_at_once h = EarlyRight.refusal {r = record { number = 1; at = longest_text }} (refused_long h)
+
   module _ (h : length text ≤ longest_text) where
     -- each pass found its row's place, and the rows are taken in their order
     pub first_right : (f b d : Found) → found_as f ≡ foreign_byte text → found_as b ≡ bad_run text → found_as d ≡ too_deep text

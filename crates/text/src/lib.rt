@@ -50,6 +50,7 @@ fn earlier(first: Early, then: Early) -> Early
 }
 
 // Refusals 1 to 4, each over the whole text before the next.
+#[tactic(auto, using(crate::proofs::ReadWhole::refused_at_once))]
 fn first_refusal(text: &[u8]) -> Early
     ensures { EarlyRight text.now result }
 {
