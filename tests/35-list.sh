@@ -7,6 +7,7 @@ set -euo pipefail
 work=$PWD/target/list-test
 rm -rf "$work"
 mkdir -p "$work/folder"
+trap 'rm -rf "$work/bare"' EXIT # rt takes a crates.txt below the repository for one of its own
 test -x target/bin/list || { echo "list: target/bin/list is not built"; exit 1; }
 touch target/bin/list # as new as its sources, which the prover has just read
 
@@ -131,7 +132,7 @@ if [ "$(uname -m)" = x86_64 ] && command -v rt > /dev/null; then
     real=$(readlink -f "$(command -v rt)")
     tools=$work/kit/on/aarch64/toolchain
     mkdir -p "$tools/bin" "$work/other"
-    ln -s "$(dirname "$(dirname "$real")")/on/x86_64/toolchain/lib" "$tools/lib"
+    ln -s "$(dirname "$(dirname "$real")")/toolchain/lib" "$tools/lib"
     printf '#!/bin/sh\necho aarch64\n' > "$work/other/uname"
     printf '#!/bin/sh\n[ "$1" != -s ] || shift 2\necho "$1" >> "%s/emulated"\nexec "$@"\n' "$work" > "$tools/bin/qemu-x86_64"
     chmod +x "$work/other/uname" "$tools/bin/qemu-x86_64"

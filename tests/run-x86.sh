@@ -4,7 +4,7 @@
 # program's stack in bytes. With --ready instead of a program it only says whether there is what it needs.
 set -euo pipefail
 
-# the kit's folder for this machine, found as rt finds it
+# the kit's folder for this machine, or its only one, found as rt finds it
 kit_tools() {
     local self link
     if [ -z "${RATTLE_HOME:-}" ]; then
@@ -15,7 +15,11 @@ kit_tools() {
         done
         RATTLE_HOME=$(cd "$(dirname "$self")/.." && pwd -P)
     fi
-    printf '%s\n' "$RATTLE_HOME/on/$(uname -m)/toolchain"
+    if [ -d "$RATTLE_HOME/on/$(uname -m)/toolchain" ]; then
+        printf '%s\n' "$RATTLE_HOME/on/$(uname -m)/toolchain"
+    else
+        printf '%s\n' "$RATTLE_HOME/toolchain"
+    fi
 }
 
 emulator='' loader=/lib64/ld-linux-x86-64.so.2

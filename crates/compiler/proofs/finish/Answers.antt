@@ -19,16 +19,16 @@ pub returns-then-out-length : goal.returns-then-out-length
 returns-then-out-length c =
     finished_8
     (labels_needed c.args.n c.greatest-labels.result c.root.ensures c.price_by-tag.ensures (c.greatest-labels.ensures c.price_by-tag.result.mark))
-    c.table_length-length.result c.table_length-length.ensures c.if-labels.false c.if-out-length.true
+    c.table_length-length.result c.table_length-length.ensures c.if-labels.false (omega arith)
 
 pub weave-requires : goal.weave-requires
 weave-requires c =
     weave_room c.requires
     (labels_needed c.args.n c.greatest-labels.result c.root.ensures c.price_by-tag.ensures (c.greatest-labels.ensures c.price_by-tag.result.mark))
-    c.if-labels.false (omega (arith, c.if-out-length.false, c.table_length-length.ensures))
+    c.if-labels.false (omega (arith, c.table_length-length.ensures))
 
 pub returns : goal.returns
 returns c =
     finished_table
     (labels_needed c.args.n c.greatest-labels.result c.root.ensures c.price_by-tag.ensures (c.greatest-labels.ensures c.price_by-tag.result.mark))
-    c.table_length-length.result c.table_length-length.ensures c.if-labels.false c.if-out-length.false c.weave.ensures
+    c.table_length-length.result c.table_length-length.ensures c.if-labels.false (omega arith) c.weave.ensures
