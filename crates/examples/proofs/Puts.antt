@@ -35,7 +35,7 @@ put_one l at x h =
 pub put_full : (l : List ℕ) (at x : ℕ) → at ≡ room → Put l l at (x ∷ []) at
 put_full l at x h = rw h (record { stored = refl; ends = refl })
 
--- put-chain: bytes behind bytes
+-- put_chain: bytes behind bytes
 
 pub put_chain : {a b c : List ℕ} {at e r : ℕ} {xs ys : List ℕ} → Put a b at xs e → Put b c e ys r → Put a c at (xs ++ ys) r
 put_chain {a} {b} {c} {at} {e} {r} {xs} {ys} p q =

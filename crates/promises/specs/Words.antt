@@ -24,7 +24,7 @@ use Rattle.table.specs.WellFormed.{FrameFault}
 use Rattle.compiler.specs.Twins.Compiling.{compiled}
 use Rattle.run.specs.Rows.{end_rows}
 
--- a text that compiles, with its meaning and its table: any two meanings of a text are equal (`one-meaning`)
+-- a text that compiles, with its meaning and its table: any two meanings of a text are equal (`one_meaning`)
 pub record Accepted (text : List ℕ) (room : ℕ) (e : Typed) (table : List ℕ) : Type 0 where
   pub answers : compiled text room ≡ result table
   pub means : Derives text e

@@ -15,7 +15,7 @@ use Rattle.grammar.specs.Twins.Reader.{level, Pending, alone, half, joined, Wait
 use Rattle.promises.specs.Examples.Binding.{minus_in_products, next_by, read_from_by, read_by, Chain, parts, parts_at, chain_behind, told_apart_from, told_apart}
 use Rattle.promises.proofs.Laws.Levels.{read_by_level}
 
--- what waits in a chain with such a last operator, read by `level` and by `minus-in-products`
+-- what waits in a chain with such a last operator, read by `level` and by `minus_in_products`
 data Matched : Option Operator → Waiting → Waiting → Type 0 where
   first : {j : Pending} {n : ℕ} → Matched none (record { sum = alone; product = j; complements = n }) (record { sum = alone; product = j; complements = n })
   by_plus : {a : Typed} {j : Pending} {n : ℕ}
