@@ -13,7 +13,7 @@ touch target/bin/list # as new as its sources, which the prover has just read
 
 program() { RUN86 target/bin/list "$@"; }
 failed=0
-# expect NAME STATUS OUTPUT ERRORS COMMAND..: STATUS - stands for any, as the language gives a program none
+# expect NAME STATUS OUTPUT ERRORS COMMAND..: STATUS - stands for any: the program's own is nought also in trouble, and the script's counts
 expect() {
     local name=$1 status=$2 output=$3 errors=$4 got=0
     shift 4

@@ -98,7 +98,7 @@ def check_name(name, placed, declared, code):
         pass
     elif NAME.match(name) and name not in LANGUAGE and not declared[name] and not code[name]:
         fault(f'`{name}` is declared nowhere under crates/')
-    elif NAME.match(name) and re.search('[-_]', name) and name not in placed and not code[name]:
+    elif NAME.match(name) and re.search('[-_]', name) and name not in placed and declared[name]:
         # without a path: a definition, or a theorem of the demands
         if not any(path == DEMANDS or '/specs/' in path for path in declared[name]):
             fault(f'`{name}` is not in {DEMANDS}: say in brackets in which file it is')
