@@ -10,6 +10,7 @@ need nm binutils
 work=$PWD/target/library
 rm -rf "$work"
 mkdir -p "$work"
+trap 'find "$work" -type l -delete' EXIT # rt refuses links below the repository
 version=$(sed -n 's/^.define BLIST_VERSION "\(.*\)"/\1/p' include/blist.h)
 functions=$(sed -n 's/^[a-z].* \**\(blist_[a-z]*\)(.*);$/\1/p' include/blist.h | sort)
 strict=(-std=c99 -Wall -Wextra -Wpedantic -Werror -O2)

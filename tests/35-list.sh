@@ -7,7 +7,7 @@ set -euo pipefail
 work=$PWD/target/list-test
 rm -rf "$work"
 mkdir -p "$work/folder"
-trap 'rm -rf "$work/bare"' EXIT # rt takes a crates.txt below the repository for one of its own
+trap 'rm -rf "$work/bare"; find "$work" -type l -delete' EXIT # rt refuses links below the repository, and a second crates.txt
 test -x target/bin/list || { echo "list: target/bin/list is not built"; exit 1; }
 touch target/bin/list # as new as its sources, which the prover has just read
 

@@ -8,6 +8,7 @@ need python3 python3
 work=$PWD/target/pages
 rm -rf "$work"
 mkdir -p "$work"
+trap 'find "$work" -type l -delete' EXIT # rt refuses links below the repository
 make --silent
 test -x target/bin/list || { echo "pages: target/bin/list is not built"; exit 1; }
 touch target/bin/list # as new as its sources, which the prover has just read
