@@ -1,12 +1,11 @@
-// The expression: as typed, in positive form, and as its marks arrange it; its truth; and how it stands in lent slices.
-// Two slices hold it, an operator behind its left and its right operand: a number for each node's kind, and how many slots
-// its subtree takes.
+// The expression: as typed, in positive form, and as its marks arrange it; its truth; and how it stands in lent slots.
+// A node stands behind its left and its right operand; its slot has a number for its kind, and how many slots its subtree takes.
 
 #![tactic(auto)]
 
 ghost use Rattle.std.specs.Prelude.{◌≡◌, true, false, ℕ, ◌+◌, ◌-◌, ◌*◌, ◌≤◌, ◌<◌, length, get_or, set};
 ghost use Rattle.terms.specs.Terms.{greatest_primitive};
-ghost use Rattle.formula.specs.Code.Held.{node_kind, node_at, is_leaf, literal_number, join_number};
+ghost use Rattle.formula.specs.Code.Held.{kinds_of, spans_of, node_kind, node_at, is_leaf, literal_number, join_number};
 
 use terms::Primitive;
 
@@ -18,6 +17,14 @@ pub enum Kind {
     Literal { primitive: Primitive, sense: bool },
 }
 
+// A node in two numbers: its kind's, and that of the slots of its subtree. An enum in place of the kind's number would take the
+// stack of a compilation past what tests/30-library.sh allows it.
+#[derive(Clone, Copy)]
+pub struct Slot {
+    pub kind: u16,
+    pub span: u16,
+}
+
 // A node with the slots of its operands; a literal has none, and the slots mean nothing.
 #[derive(Clone, Copy)]
 pub struct Node {
@@ -27,32 +34,25 @@ pub struct Node {
 }
 
 // The kind that a number stands for: union, intersection, or one of the two senses of a primitive.
-pub fn node_kind(number: u16) -> Kind
-    ensures { result ≡ node_kind number }
-{
-    if number == 0 {
-        return Kind::Union;
-    }
-    if number == 1 {
-        return Kind::Intersection;
-    }
-    Kind::Literal {
-        primitive: Primitive((number - 2) / 2),
-        sense: number % 2 == 1,
+impl From<u16> for Kind {
+    ghost from_gives = { λ number r. r ≡ node_kind number };
+
+    fn from(number: u16) -> Kind {
+        match number {
+            0 => Kind::Union,
+            1 => Kind::Intersection,
+            _ => Kind::Literal {
+                primitive: Primitive((number - 2) / 2),
+                sense: number % 2 == 1,
+            },
+        }
     }
 }
 
 pub fn is_literal(kind: Kind) -> bool
     ensures { result ≡ is_leaf kind }
 {
-    match kind {
-        Kind::Union => false,
-        Kind::Intersection => false,
-        Kind::Literal {
-            primitive: _,
-            sense: _,
-        } => true,
-    }
+    matches!(kind, Kind::Literal { .. })
 }
 
 // The number that stands for a literal, and for an operator.
@@ -70,41 +70,28 @@ pub fn literal_number(primitive: Primitive, sense: bool) -> u16
 pub fn join_number(intersection: bool) -> u16
     ensures { result ≡ join_number intersection }
 {
-    if intersection { 1 } else { 0 }
-}
-
-// a less b, or 0.
-fn less(a: usize, b: usize) -> usize
-    ensures { result ≡ a - b }
-{
-    if b <= a { a - b } else { 0 }
-}
-
-fn wide(x: u16) -> usize
-    ensures { result ≡ x }
-{
-    x as usize
+    u16::from(intersection)
 }
 
 // The node in the slot i: its right operand stands directly before it, and its left operand before that one's subtree.
-pub fn node_at(kinds: &[u16], spans: &[u16], i: usize) -> Node
-    requires i_in_bounds { i < length kinds.now }
-    requires i_in_bounds_2 { i < length spans.now }
-    ensures { result ≡ node_at kinds.now spans.now i }
+pub fn node_at(slots: &[Slot], i: usize) -> Node
+    requires { i < length slots.now }
+    ensures { result ≡ node_at (kinds_of slots.now) (spans_of slots.now) i }
 {
-    let kind = node_kind(kinds[i]);
-    let right = less(i, 1);
-    let left = less(right, wide(spans[right]));
-    Node { kind, left, right }
+    let right = i.saturating_sub(1);
+    let left = right.saturating_sub(usize::from(slots[right].span));
+    Node {
+        kind: Kind::from(slots[i].kind),
+        left,
+        right,
+    }
 }
 
 // A node in the slot i.
-pub fn put(kinds: &mut [u16], spans: &mut [u16], i: usize, kind: u16, span: u16)
-    requires i_in_bounds { i < length kinds.old }
-    requires i_in_bounds_2 { i < length spans.old }
-    ensures kinds_after { kinds.new ≡ set kinds.old i kind }
-    ensures spans_after { spans.new ≡ set spans.old i span }
+pub fn put(slots: &mut [Slot], i: usize, kind: u16, span: u16)
+    requires { i < length slots.old }
+    ensures kinds_after { kinds_of slots.new ≡ set (kinds_of slots.old) i kind }
+    ensures spans_after { spans_of slots.new ≡ set (spans_of slots.old) i span }
 {
-    kinds[i] = kind;
-    spans[i] = span;
+    slots[i] = Slot { kind, span };
 }

@@ -28,77 +28,47 @@ pub enum Sign {
     Other,
 }
 
-#[tactic(auto, unfolding(crate::specs::Bytes::sign_of))]
-pub fn sign_of(byte: u8) -> Sign
-    ensures { result ≡ sign_of byte }
-{
-    match byte {
-        48..=57 => Sign::Digit(byte - 48),
-        43 => Sign::Joins(Operator::Plus),
-        42 => Sign::Joins(Operator::Times),
-        45 => Sign::Joins(Operator::Minus),
-        33 => Sign::Bang,
-        40 => Sign::Open,
-        41 => Sign::Close,
-        32 | 10 => Sign::Blank,
-        _ => Sign::Other,
+impl From<u8> for Sign {
+    ghost from_gives = { λ byte r. r ≡ sign_of byte };
+
+    #[tactic(auto, unfolding(crate::specs::Bytes::sign_of))]
+    fn from(byte: u8) -> Sign {
+        match byte {
+            48..=57 => Sign::Digit(byte - 48),
+            43 => Sign::Joins(Operator::Plus),
+            42 => Sign::Joins(Operator::Times),
+            45 => Sign::Joins(Operator::Minus),
+            33 => Sign::Bang,
+            40 => Sign::Open,
+            41 => Sign::Close,
+            32 | 10 => Sign::Blank,
+            _ => Sign::Other,
+        }
     }
 }
 
 pub fn is_other(sign: Sign) -> bool
     ensures { result ≡ is_other sign }
 {
-    match sign {
-        Sign::Digit(_) => false,
-        Sign::Joins(_) => false,
-        Sign::Bang => false,
-        Sign::Open => false,
-        Sign::Close => false,
-        Sign::Blank => false,
-        Sign::Other => true,
-    }
+    matches!(sign, Sign::Other)
 }
 
 pub fn is_digit(sign: Sign) -> bool
     ensures { result ≡ is_digit sign }
 {
-    match sign {
-        Sign::Digit(_) => true,
-        Sign::Joins(_) => false,
-        Sign::Bang => false,
-        Sign::Open => false,
-        Sign::Close => false,
-        Sign::Blank => false,
-        Sign::Other => false,
-    }
+    matches!(sign, Sign::Digit(_))
 }
 
 pub fn is_open(sign: Sign) -> bool
     ensures { result ≡ is_open sign }
 {
-    match sign {
-        Sign::Digit(_) => false,
-        Sign::Joins(_) => false,
-        Sign::Bang => false,
-        Sign::Open => true,
-        Sign::Close => false,
-        Sign::Blank => false,
-        Sign::Other => false,
-    }
+    matches!(sign, Sign::Open)
 }
 
 pub fn is_close(sign: Sign) -> bool
     ensures { result ≡ is_close sign }
 {
-    match sign {
-        Sign::Digit(_) => false,
-        Sign::Joins(_) => false,
-        Sign::Bang => false,
-        Sign::Open => false,
-        Sign::Close => true,
-        Sign::Blank => false,
-        Sign::Other => false,
-    }
+    matches!(sign, Sign::Close)
 }
 
 // How close an operator binds: one that joins products into a sum, and one that joins factors into a product.

@@ -1,16 +1,24 @@
--- How two slices hold an expression, an operator behind its left and its right operand.
+-- How slots hold an expression, an operator behind its left and its right operand.
+--   kinds_of, spans_of == the two numbers of each slot
 --   nodes e          == how many slots e takes: one a literal, one an operator
 --   node_kind number   == what a node's number stands for
 --   node_at ks ss i  == the node in the slot i
 --   Holds ks ss i e  == the nodes e slots up to i hold e, its root in the slot i
 -- An occurrence is not stored: it is a literal's rank among the literals as typed.
 -- Assumes nothing.
-use Rattle.std.specs.Prelude.{ℕ, suc, ◌+◌, ◌-◌, ◌*◌, ◌/◌, ◌%◌, ◌≤◌, ◌<◌, ◌≡◌, Bool, true, false, cond, List, eqb, length, get_or}
+use Rattle.std.specs.Prelude.{ℕ, suc, ◌+◌, ◌-◌, ◌*◌, ◌/◌, ◌%◌, ◌≤◌, ◌<◌, ◌≡◌, Bool, true, false, cond, List, map, eqb, length, get_or}
 use Rattle.formula.specs.declared.Kind as coded
 use Rattle.formula.specs.declared.Kind.TheVariants.{Union, Intersection, Literal}
 use Rattle.formula.specs.declared.Node.{Node}
+use Rattle.formula.specs.declared.Slot.{Slot}
 use Rattle.formula.specs.Formula as formula
 use Rattle.formula.specs.Formula.{Kind, union, intersection, Expr, literal, join}
+
+abbrev pub kinds_of : List Slot → List ℕ
+kinds_of slots = map (λ s. s.kind) slots
+
+abbrev pub spans_of : List Slot → List ℕ
+spans_of slots = map (λ s. s.span) slots
 
 unfoldable pub nodes : Expr → ℕ
 nodes (literal x) = 1
