@@ -1,8 +1,9 @@
 -- The flat reader agrees with the reader: it is what the reader does, seen by mode and count of open parentheses alone.
 -- Assumes nothing.
-use Prim.Native.Nat.{ℕ, zero, suc, ◌+◌, ◌-◌, ◌≤◌, ◌<◌}
-use mathlib.Core.Path.{◌≡◌, refl, sym, ap}
+use Prim.Native.Nat.{ℕ, zero, suc, ◌+◌, ◌≤◌, ◌<◌}
+use mathlib.Core.Path.{◌≡◌, refl, ap}
 use mathlib.Core.List.{List, [], ◌∷◌}
+use Rattle.std.specs.Prelude.{Option, None, Some, Result, Ok, Err}
 use native.Mathlib.Numerals.{add-one}
 use native.Mathlib.Omega.{arith}
 use lib.ListN.{length, drop, drop_of_length-le}
@@ -12,10 +13,7 @@ use Rattle.grammar.specs.declared.Sign.{Sign}
 use Rattle.grammar.specs.declared.Sign.TheVariants.{Digit, Joins, Bang, Open, Close, Blank, Other}
 use Rattle.text.specs.declared.scan.Mode.{Mode}
 use Rattle.text.specs.declared.scan.Mode.TheVariants.{Wanted, Inside, Complete}
-use Rattle.text.specs.declared.scan.Step.{Step}
-use Rattle.text.specs.declared.scan.Step.TheVariants.{Stuck, Go}
-use Rattle.text.specs.declared.scan.Verdict.{Verdict}
-use Rattle.text.specs.declared.scan.Verdict.TheVariants.{Fits, Fault}
+use Rattle.text.specs.declared.Stop.{Stop}
 use Rattle.grammar.specs.Bytes.{sign_of}
 use Rattle.grammar.specs.Twins.Places.{sign_at}
 use Rattle.grammar.specs.Twins.Reader.{Pending, Waiting, State, wanted, inside, complete, Next, stuck, go, closing, on_complete, next_state, closed, at_end, onward, Outcome, means, stops, read_from, read}
@@ -27,9 +25,9 @@ mode_of (wanted w) = Wanted
 mode_of (inside w v) = Inside
 mode_of (complete sum p) = Complete
 
-abbrev step_of : Next → Step
-step_of stuck = Stuck
-step_of (go st outer) = Go (mode_of st) (length outer)
+abbrev step_of : Next → Option (Mode × ℕ)
+step_of stuck = None
+step_of (go st outer) = Some (mode_of st, length outer)
 
 close_agrees : (e : Typed) (outer : List Waiting) → step_of (closing e outer) ≡ flat_close (length outer)
 close_agrees e [] = refl
@@ -70,7 +68,7 @@ end_agrees (wanted w) outer at = refl
 end_agrees (inside w v) outer at = closed_agrees _ outer at
 end_agrees (complete sum p) outer at = closed_agrees _ outer at
 
-onward_agrees : (n : Next) (at : ℕ) (f : State → List Waiting → Outcome) (g : Mode → ℕ → Verdict)
+onward_agrees : (n : Next) (at : ℕ) (f : State → List Waiting → Outcome) (g : Mode → ℕ → Result (Unit {0}) Stop)
     → ((st : State) (outer : List Waiting) → verdict (f st outer) ≡ g (mode_of st) (length outer))
     → verdict (onward n at f) ≡ flat_onward (step_of n) at g
 onward_agrees stuck at f g same = refl
@@ -95,23 +93,23 @@ module _ (text : List ℕ) (i : ℕ) (mode : Mode) (depth : ℕ) (h : i < length
   unfolding flat_from
   flat_here = rw (drop-cons text i 0 h, add-one)
 
-  pub flat_stuck : flat_step mode (sign_at text i) depth ≡ Stuck → flat_from mode depth i (drop i text) ≡ Fault i
+  pub flat_stuck : flat_step mode (sign_at text i) depth ≡ None → flat_from mode depth i (drop i text) ≡ Err (record { 0 = i })
   flat_stuck e = rw (flat_here, e)
 
-  pub flat_next : {mode' : Mode} {depth' : ℕ} → flat_step mode (sign_at text i) depth ≡ Go mode' depth' → flat_from mode depth i (drop i text) ≡ flat_from mode' depth' (i + 1) (drop (i + 1) text)
+  pub flat_next : {mode' : Mode} {depth' : ℕ} → flat_step mode (sign_at text i) depth ≡ Some (mode', depth') → flat_from mode depth i (drop i text) ≡ flat_from mode' depth' (i + 1) (drop (i + 1) text)
   flat_next e = rw (flat_here, e)
 
-pub flat_done : (text : List ℕ) (i : ℕ) (mode : Mode) (depth : ℕ) → i ≡ length text → flat_from mode depth i (drop i text) ≡ flat_end mode depth i
+pub flat_done : (text : List ℕ) (i : ℕ) (mode : Mode) (depth : ℕ) → i ≡ length text → flat_from mode depth i (drop i text) ≡ flat_end mode depth (length text)
 unfolding flat_from
 flat_done text i mode depth e =
     let beyond : length text ≤ i = omega arith in
     let none : drop i text ≡ [] = drop_of_length-le text beyond in
-    rw none
+    rw (none, e)
 
 -- a byte opens at most one parenthesis
-abbrev open_of : Step → ℕ
-open_of Stuck = 0
-open_of (Go mode depth) = depth
+abbrev open_of : Option (Mode × ℕ) → ℕ
+open_of None = 0
+open_of (Some (mode, depth)) = depth
 
 close_less : (depth : ℕ) → open_of (flat_close depth) ≤ suc depth
 close_less zero = omega arith
@@ -143,35 +141,14 @@ step_less Inside Blank depth = omega arith
 step_less Inside Other depth = omega arith
 step_less Complete k depth = complete_less k depth
 
-pub one_more : (mode : Mode) (k : Sign) (depth : ℕ) {mode' : Mode} {depth' : ℕ} → flat_step mode k depth ≡ Go mode' depth' → depth' ≤ depth + 1
+pub one_more : (mode : Mode) (k : Sign) (depth : ℕ) {mode' : Mode} {depth' : ℕ} → flat_step mode k depth ≡ Some (mode', depth') → depth' ≤ depth + 1
 one_more mode k depth e = omega (arith, step_less mode k depth, ap open_of e)
 
--- a `)` closes one of the parentheses that are open
-pub close_one : (depth : ℕ) → (depth ≡ 0 → ⊥) → Go Complete (depth - 1) ≡ flat_close depth
-close_one zero h = absurd (h refl)
-close_one (suc depth) h =
-    let e : suc depth - 1 ≡ depth = omega arith in
-    rw e
-
--- a parenthesis that is open at the end is a fault
-pub end_open : (mode : Mode) (depth at : ℕ) → (depth ≡ 0 → ⊥) → Fault at ≡ flat_end mode depth at
-end_open mode zero at h = absurd (h refl)
-end_open Wanted (suc depth) at h = refl
-end_open Inside (suc depth) at h = refl
-end_open Complete (suc depth) at h = refl
-
-apart : (at : ℕ) → Fits ≡ Fault at → ⊥
-apart at h =
-    let z : ◌≡◌ {A = ℕ} 0 1 = cc in
-    omega arith
-
 -- what a verdict says of the reading
-pub fault_stops : (r : Outcome) (at : ℕ) → verdict r ≡ Fault at → r ≡ stops at
-fault_stops (means e) at h = absurd (apart at h)
-fault_stops (stops p) at h =
-    let e : p ≡ at = cc in
-    rw e
+pub fault_stops : (r : Outcome) (stop : Stop) → verdict r ≡ Err stop → r ≡ stops stop.0
+fault_stops (means e) stop h = grind arith
+fault_stops (stops p) stop h = grind arith
 
-pub fits_means : (r : Outcome) → verdict r ≡ Fits → (e : Typed) × (r ≡ means e)
+pub fits_means : (r : Outcome) → verdict r ≡ Ok tt → (e : Typed) × (r ≡ means e)
 fits_means (means e) h = (e, refl)
-fits_means (stops p) h = absurd (apart p (sym h))
+fits_means (stops p) h = absurd (grind arith)

@@ -4,6 +4,7 @@ pub mod ScanRuns
 pub mod ScanBad
 pub mod ScanDepth
 pub mod Flat
+pub mod Early
 pub mod ReadSigns
 pub mod ReadSteps
 pub mod ReadRuns

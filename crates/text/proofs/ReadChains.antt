@@ -14,33 +14,15 @@ use Rattle.formula.proofs.Held.{holds_joint, intersects}
 use Rattle.grammar.specs.declared.Operator.{Operator}
 use Rattle.grammar.specs.declared.Operator.TheVariants.{Times}
 use Rattle.grammar.specs.declared.Sign.{Sign}
-use Rattle.text.specs.declared.readers.Part.{Part}
-use Rattle.text.specs.declared.readers.Part.TheVariants.{At, Fault}
 use Rattle.grammar.specs.Twins.Places.{sign_at}
 use Rattle.grammar.specs.Twins.Reader.{of_sums, of_products, applied, Pending, alone, half, Waiting, wanted, complete, complemented, awaiting, next_state}
 use Rattle.grammar.proofs.Numbers.{numbers_applied}
-use Rattle.text.specs.Code.Readers.{of_factors, right_sense, behind, intersecting, meets, binding, after, form, Slots, slots, Kept, Ready, most_slots, FactorMeans, FactorStops, ProductMeans, ProductStops, SumMeans, SumStops, Built, PartRead, read, reads_on}
+use Rattle.text.specs.Code.Readers.{of_factors, right_sense, behind, intersecting, meets, binding, after, form, Slots, slots, Kept, Ready, most_slots, FactorMeans, FactorStops, ProductMeans, ProductStops, SumMeans, SumStops, Built, reads_on}
 use Rattle.text.proofs.ReadSigns.{binds_no_digit, times_is, OfSums, sum_is}
 use Rattle.text.proofs.ReadSteps.{beyond, step_on}
 use Rattle.text.proofs.ReadRuns.{runs_kept, clear_after}
 use Rattle.text.proofs.ScanRuns.{runs_up}
 use Rattle.text.proofs.ReadForms.{numbers_some, form_nodes, kind_in, kind_number, form_applied, kept_refl, kept_trans, kept_set, holds_below}
-
--- a part's reading, by the answer's variant
-module _ {Means : List ℕ → ℕ → ℕ → Typed → Type 0} {Stops : List ℕ → ℕ → ℕ → Type 0} {level : ℕ} {text : List ℕ} {at : ℕ} {sense : Bool}
-    {start : ℕ} {a b : Slots} where
-  built : {next n : ℕ} → PartRead Means Stops level text at sense start a b (At next n) → Built Means level text at sense start a b next n
-  built (read g) = g
-
-  stopped : {p : ℕ} → PartRead Means Stops level text at sense start a b (Fault p) → Stops text at p
-  stopped (PartRead.fault g) = g
-
-  pub got : {r : Part} {next n : ℕ} → r ≡ At next n → PartRead Means Stops level text at sense start a b r
-      → Built Means level text at sense start a b next n
-  got e h = built (rw e at h)
-
-  pub missed : {r : Part} {p : ℕ} → r ≡ Fault p → PartRead Means Stops level text at sense start a b r → Stops text at p
-  missed e h = stopped (rw e at h)
 
 -- an operator stands in the text
 pub binds_stands : (text : List ℕ) (i : ℕ) → 1 ≤ binding (sign_at text i) → i < length text
@@ -137,13 +119,14 @@ module _ {M : List ℕ → ℕ → ℕ → Typed → Type 0} {lv : ℕ} {text : 
         kept = kept_trans first k.kept (kept_trans second g.kept (kept_set m _ _ c));
       })
 
--- a chain starts with its first operand, and ends before an operator that binds less close
-chain_first : {M N : List ℕ → ℕ → ℕ → Typed → Type 0} {level : ℕ} {text : List ℕ} {at start next n : ℕ} {sense : Bool} {a b : Slots}
-    → (g : Built M level text at sense start a b next n) → N text at next g.meaning → Built N level text at sense start b b next n
-chain_first {start = start} {b = b} g means =
+-- a product starts with its first factor
+pub product_first : {text : List ℕ} {at start next n : ℕ} {sense : Bool} {a b : Slots} → Built FactorMeans of_factors text at sense start a b next n
+    → Built ProductMeans of_factors text at sense start b b next n
+unfolding complemented
+product_first {start = start} {b = b} g =
     record {
       meaning = g.meaning;
-      means = means;
+      means = λ sum outer. g.means (after sum) outer;
       past = g.past;
       within = g.within;
       ends = g.ends;
@@ -153,28 +136,6 @@ chain_first {start = start} {b = b} g means =
       holds = g.holds;
       kept = kept_refl start b;
     }
-
-pub chain_end : {M : List ℕ → ℕ → ℕ → Typed → Type 0} {level below : ℕ} {text : List ℕ} {at start i n : ℕ} {sense : Bool} {a z b : Slots}
-    → Kept start a z → Built M level text at sense start z b i n → binding (sign_at text i) < below → Built M below text at sense start a b i n
-chain_end f k l =
-    record {
-      meaning = k.meaning;
-      means = k.means;
-      past = k.past;
-      within = k.within;
-      ends = k.ends;
-      lower = l;
-      counted = k.counted;
-      filled = k.filled;
-      holds = k.holds;
-      kept = kept_trans (omega arith) f k.kept;
-    }
-
--- a product
-pub product_first : {text : List ℕ} {at start next n : ℕ} {sense : Bool} {a b : Slots} → Built FactorMeans of_factors text at sense start a b next n
-    → Built ProductMeans of_factors text at sense start b b next n
-unfolding complemented
-product_first g = chain_first {N = ProductMeans} g (λ sum outer. g.means (after sum) outer)
 
 module _ {text : List ℕ} {at start i n : ℕ} {sense : Bool} {a z b : Slots} (u : Ready text at start a) (f : Kept start a z)
     (k : Built ProductMeans of_factors text at sense start z b i n) (h : of_products ≤ binding (sign_at text i)) where
@@ -195,10 +156,6 @@ module _ {text : List ℕ} {at start i n : ℕ} {sense : Bool} {a z b : Slots} (
   product_late g = λ sum outer. at_times sum outer ∙ g _ outer
 
 -- a sum
-pub sum_first : {text : List ℕ} {at start next n : ℕ} {sense : Bool} {a b : Slots} → Built ProductMeans of_products text at sense start a b next n
-    → Built SumMeans of_products text at sense start b b next n
-sum_first g = chain_first {N = SumMeans} g (record { sum = alone; product = g.meaning; is = refl; reads = λ outer. g.means alone outer })
-
 module _ {text : List ℕ} {at start i n : ℕ} {sense : Bool} {a z b : Slots} (u : Ready text at start a) (f : Kept start a z)
     (k : Built SumMeans of_products text at sense start z b i n) (h : of_sums ≤ binding (sign_at text i)) where
   here : OfSums (sign_at text i)

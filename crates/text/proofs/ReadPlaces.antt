@@ -5,22 +5,25 @@ use mathlib.Core.Path.{◌≡◌, refl, sym, ap, ◌∙◌, subst}
 use mathlib.Core.Bool.{Bool, true, false, not}
 use mathlib.Core.Logic.{◌⊎◌, inl, inr}
 use mathlib.Core.Option.{none}
-use mathlib.Core.List.{List}
+use mathlib.Core.List.{List, [], ◌∷◌}
 use native.Mathlib.Nat.{le_refl, zero-add}
 use native.Mathlib.Omega.{arith}
-use lib.ListN.{length}
+use lib.ListN.{length, get_or, drop, length-drop}
+use Rattle.std.specs.List.{prefix_len, take_while}
+use Rattle.std.proofs.lemmas.List.Folds.{length-prefix_len}
 use Rattle.terms.specs.Terms.{greatest_primitive}
 use Rattle.formula.specs.Typed.{number}
 use Rattle.grammar.specs.declared.Sign.{Sign}
 use Rattle.grammar.specs.declared.Sign.TheVariants.{Bang, Blank}
 use Rattle.text.specs.Code.DigitRun.{digit_of}
-use Rattle.grammar.specs.Bytes.{is_digit, numeral_from}
+use Rattle.grammar.specs.Bytes.{sign_of, is_digit, numeral_from}
 use Rattle.grammar.specs.Twins.Places.{sign_at, no_digit_before, run_at, runs_before, bad_run}
 use Rattle.grammar.specs.Twins.Reader.{Waiting, wanted, inside, complete, product_with, next_state}
-use Rattle.text.specs.Code.Readers.{is_blank, leads, behind, more, flipped, complementing, reads_on, Over, Passed, Numbered}
+use Rattle.text.specs.Code.Readers.{is_blank, leads, behind, more, flipped, complementing, reads_on, Over, Skipped, Passed, OperandAt, Numbered}
 use Rattle.grammar.proofs.Complete.{inside_another}
+use Rattle.text.proofs.ScanTests.{by_test}
 use Rattle.text.proofs.ReadSigns.{pass_is, blank_is, digit_is, tested}
-use Rattle.text.proofs.ReadSteps.{stands, step_on, step_same}
+use Rattle.text.proofs.ReadSteps.{place-cons, beyond, stands, step_on, step_same}
 use Rattle.text.proofs.ReadRuns.{runs_kept, runs_start, runs_inside, clear_after, digit_after, number_small, numeral_step}
 use Rattle.text.proofs.ScanBad.{numeral_grows}
 
@@ -42,6 +45,27 @@ over_next {text} {at} {i} p e =
       reads = λ sum x outer. p.reads sum x outer
           ∙ step_on text i (complete sum x) (complete sum x) outer outer h (ap (λ (s : Sign). next_state (complete sum x) s outer) k);
     }
+
+-- as many blanks as the text goes on with
+skipped_from : (text : List ℕ) (at i : ℕ) (s : List ℕ) → drop i text ≡ s → Over text at i → Skipped text at (i + prefix_len (λ b. is_blank (sign_of b)) s)
+skipped_from text at i [] e o =
+    let end : length text ≤ i = omega (arith, length-drop i text, ap length e) in
+    let same : i + 0 ≡ i = omega arith in
+    rw same (record { over = o; ends = ap is_blank (beyond text i end) })
+skipped_from text at i (b ∷ s) e o =
+    let h : i < length text = omega (arith, length-drop i text, ap length e) in
+    let both = sym (place-cons text i h) ∙ e in
+    let here : get_or text i 0 ≡ b = cc in
+    let rest : drop (i + 1) text ≡ s = cc in
+    by_test (is_blank (sign_of b))
+    (λ t.
+    let more : i + (1 + prefix_len (λ c. is_blank (sign_of c)) s) ≡ i + 1 + prefix_len (λ c. is_blank (sign_of c)) s = omega arith in
+    rw (t, more) (skipped_from text at (i + 1) s rest (over_next o (rw here t))))
+    (λ t. let same : i + 0 ≡ i = omega arith in rw (t, same) (record { over = o; ends = rw here t }))
+
+pub skipped_all : (text : List ℕ) (at : ℕ) → at ≤ length text → Skipped text at (at + length (take_while (λ b. is_blank (sign_of b)) (drop at text)))
+skipped_all text at h =
+    rw length-prefix_len (skipped_from text at at (drop at text) refl (over_start text at h))
 
 -- blanks and complements before an operand
 pub passed_start : (text : List ℕ) (at : ℕ) (sense : Bool) → at ≤ length text → no_digit_before text at ≡ true → Passed text at sense at sense
@@ -95,6 +119,13 @@ pub passed_on : {text : List ℕ} {at i : ℕ} {sense s t s' : Bool} {k : Sign} 
     → s' ≡ behind k s → Passed text at sense (i + 1) s'
 passed_on {text} {at} {i} {sense} {s} p e f g h =
     subst (λ (x : Bool). Passed text at sense (i + 1) x) (sym (h ∙ ap (λ (x : Sign). behind x s) e)) (passed_next p (tested leads e f g))
+
+-- up to the end of the text
+pub passed_all : {text : List ℕ} {at i : ℕ} {sense s : Bool} → Passed text at sense i s → length text ≤ i
+    → OperandAt text at sense (record { at = length text; sense = s })
+passed_all {text} {i = i} p h =
+    let e : i ≡ length text = omega (arith, p.within) in
+    record { passed = rw e at p; ends = ap leads (beyond text (length text) (le_refl (length text))) }
 
 -- the digits of a number from `at` to i, with the value v so far
 pub record Digits (text : List ℕ) (at i v : ℕ) : Type 0 where
@@ -160,3 +191,8 @@ module _ {text : List ℕ} {at i v : ℕ} (p : Digits text at i v) where
             ∙ step_same text i (inside w v) (complete w.sum (product_with w (number v))) outer p.within
             (inside_another w v (sign_at text i) outer d) refl;
       }
+
+  pub digits_all : length text ≤ i → Numbered text at (record { value = record { 0 = v }; next = length text })
+  digits_all h =
+      let e : i ≡ length text = omega (arith, p.within) in
+      rw (← e) (digits_end (ap is_digit (beyond text i h)))

@@ -15,7 +15,8 @@ use Rattle.text.specs.Code.DigitRun.{digit_of}
 use Rattle.grammar.specs.Bytes.{is_digit}
 use Rattle.grammar.specs.Twins.Places.{is_open, is_close}
 use Rattle.grammar.specs.Twins.Reader.{of_sums, of_products, level, Pending, joined, Waiting, stuck, closing, on_wanted, on_complete}
-use Rattle.text.proofs.ScanTests.{not_both}
+use Rattle.grammar.proofs.Signs.{is_open_true}
+use Rattle.text.proofs.ScanTests.{not_both, by_test}
 use Rattle.text.specs.Code.Readers.{of_factors, is_blank, leads, binding}
 
 pub clash : false ≡ true → ⊥
@@ -47,6 +48,13 @@ digit_is Open e = absurd (clash e)
 digit_is Close e = absurd (clash e)
 digit_is Blank e = absurd (clash e)
 digit_is Other e = absurd (clash e)
+
+-- what a match on the sign that a call of `look` gave told of it
+pub no_digit : {k k' : Sign} → k ≡ k' → ((d : ℕ) → k ≡ Digit d → ⊥) → is_digit k' ≡ false
+no_digit {k' = k'} e f = by_test (is_digit k') (λ t. absurd (f (digit_of k') (e ∙ digit_is k' t))) (λ t. t)
+
+pub no_open : {k k' : Sign} → k ≡ k' → (k ≡ Open → ⊥) → is_open k' ≡ false
+no_open {k' = k'} e f = by_test (is_open k') (λ t. absurd (f (e ∙ is_open_true k' t))) (λ t. t)
 
 level_low : (o : Operator) → level o < of_factors
 level_low Plus = omega arith
@@ -131,8 +139,5 @@ pub tested : (test : Sign → Bool) {k k' : Sign} {t v : Bool} → k ≡ k' → 
 tested test e f g = sym (f ∙ ap test e) ∙ g
 
 -- and what a call of `binding` told
-pub binds_below : {k k' : Sign} {t l : ℕ} → k ≡ k' → t ≡ binding k → t < l → binding k' < l
-binds_below e f h = rw (f ∙ ap binding e) at h
-
 pub binds_from : {k k' : Sign} {t l : ℕ} → k ≡ k' → t ≡ binding k → l ≤ t → l ≤ binding k'
 binds_from e f h = rw (f ∙ ap binding e) at h

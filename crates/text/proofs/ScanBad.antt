@@ -1,25 +1,23 @@
--- Runs of digits as a text is walked run by run: what one run is, digit by digit, and which places it leaves behind.
+-- Runs of digits: the run at a place, and when the digits that bytes begin with are too large for a number.
 -- Assumes nothing.
-use Prim.Native.Nat.{ℕ, zero, suc, ◌+◌, ◌-◌, ◌≤◌, ◌<◌}
+use Prim.Native.Nat.{ℕ, suc, ◌+◌, ◌-◌, ◌*◌, ◌≤◌, ◌<◌}
 use mathlib.Core.Path.{◌≡◌, refl, sym, ap, ◌∙◌}
-use mathlib.Core.Bool.{Bool, true, false, cond, ◌&&◌, ◌||◌, and-false}
+use mathlib.Core.Bool.{Bool, true, false, cond, ◌&&◌, ◌||◌, or-true}
 use mathlib.Core.List.{List, [], ◌∷◌}
 use native.Mathlib.Nat.{le_trans}
 use native.Mathlib.Numerals.{add-one}
 use native.Mathlib.Omega.{arith}
 use lib.Dec.{leb, ltb, eqb}
-use lib.ListN.{length, get_or, drop, drop_of_length-le}
-use lib.Seq.{drop-cons, get_or-drop}
-use borrow.Author.Tests.{ltb-true, ltb-false, leb-false, eqb-true, eqb-false, lt-ltb}
-use Rattle.terms.specs.First.{first_from}
+use lib.ListN.{length, get_or, drop_of_length-le}
+use lib.Seq.{drop-cons}
+use borrow.Author.Tests.{lt-ltb, le-ltb}
 use Rattle.terms.specs.Terms.{most_digits, greatest_primitive}
 use Rattle.grammar.specs.declared.Sign.{Sign}
 use Rattle.grammar.specs.declared.Operator.TheVariants.{Plus, Times, Minus}
-use Rattle.grammar.specs.declared.Sign.TheVariants.{Joins, Bang, Open, Close, Blank, Other}
-use Rattle.grammar.specs.Bytes.{sign_of, is_digit, zero_digit, nine_digit, shifted, numeral_from, numeral}
-use Rattle.grammar.specs.Twins.Places.{sign_at, no_digit_before, run_starts, leading_digits, run_at, too_large, bad_run_at}
-use Rattle.text.specs.Code.DigitRun.{digit_of, grown, RunRead}
-use Rattle.text.proofs.ScanFirst.{first_skipped}
+use Rattle.grammar.specs.declared.Sign.TheVariants.{Digit, Joins, Bang, Open, Close, Blank, Other}
+use Rattle.grammar.specs.Bytes.{sign_of, is_digit, zero_digit, nine_digit, shifted, numeral_from}
+use Rattle.grammar.specs.Twins.Places.{sign_at, leading_digits, run_at, too_large}
+use Rattle.text.specs.Code.DigitRun.{digit_of}
 use Rattle.text.proofs.ScanTests.{by_test, not_both}
 
 -- behind the test for digits no sign is one
@@ -43,19 +41,6 @@ digit_value b h =
     absurd (not_both _ (rw e at h)
     (no_digit_else (eqb b 43) (eqb b 42) (eqb b 45) (eqb b 33) (eqb b 40) (eqb b 41) (eqb b 32) (eqb b 10))))
 
--- the digits that a list begins with
-leading_within : (s : List ℕ) (k : ℕ) → k < length (leading_digits s) → is_digit (sign_of (get_or s k 0)) ≡ true
-unfolding leading_digits
-leading_within [] k h = absurd (omega arith)
-leading_within (b ∷ s) zero h = by_test (is_digit (sign_of b)) (λ e. e) (λ e. absurd (omega (arith, rw e at h)))
-leading_within (b ∷ s) (suc k) h =
-    by_test (is_digit (sign_of b)) (λ e. leading_within s k (omega (arith, rw e at h))) (λ e. absurd (omega (arith, rw e at h)))
-
-leading_behind : (s : List ℕ) → is_digit (sign_of (get_or s (length (leading_digits s)) 0)) ≡ false
-unfolding leading_digits sign_of
-leading_behind [] = refl
-leading_behind (b ∷ s) = by_test (is_digit (sign_of b)) (λ e. rw e (leading_behind s)) (λ e. rw e e)
-
 -- the run at a place: a digit and the run behind it, or nothing
 pub run_digit : (text : List ℕ) (i : ℕ) → i < length text → is_digit (sign_at text i) ≡ true → run_at text i ≡ get_or text i 0 ∷ run_at text (i + 1)
 unfolding leading_digits
@@ -75,89 +60,63 @@ unfolding numeral_from
 numeral_grows v [] = omega arith
 numeral_grows v (b ∷ w) = le_trans (omega arith) (numeral_grows (shifted v (b - zero_digit)) w)
 
--- whether the value is over the greatest primitive, with one digit more read
-over_grown : (v b : ℕ) (w : List ℕ) → ltb greatest_primitive (numeral_from v (b ∷ w)) ≡ ltb greatest_primitive (numeral_from (grown v (b - zero_digit)) w)
-unfolding numeral_from
-over_grown v b w =
-    by_test (leb v greatest_primitive) (λ e. rw e)
-    (λ e.
-    let over = leb-false v greatest_primitive e in
-    let more = shifted v (b - zero_digit) in
-    rw (e, lt-ltb greatest_primitive (numeral_from v w) (omega (arith, numeral_grows v w)))
-    (lt-ltb greatest_primitive (numeral_from more w) (omega (arith, numeral_grows more w))))
+pub no_digit : (k : Sign) → ((d : ℕ) → k ≡ Digit d → ⊥) → is_digit k ≡ false
+no_digit (Digit d) h = absurd (h d refl)
+no_digit (Joins o) h = refl
+no_digit Bang h = refl
+no_digit Open h = refl
+no_digit Close h = refl
+no_digit Blank h = refl
+no_digit Other h = refl
 
--- the run at `at` has been read up to i
-pub record Running (text : List ℕ) (at i value : ℕ) : Type 0 where
-  pub from : at ≤ i
-  pub within : i ≤ length text
-  pub digits : length (run_at text at) ≡ (i - at) + length (run_at text i)
-  pub over : ltb greatest_primitive (numeral (run_at text at)) ≡ ltb greatest_primitive (numeral_from value (run_at text i))
+-- whether digits that follow so many others with such a value make them too large for a number
+abbrev large_behind : ℕ → ℕ → List ℕ → Bool
+large_behind i value w = ltb most_digits (i + length w) || ltb greatest_primitive (numeral_from value w)
 
-pub running_start : (text : List ℕ) (at : ℕ) → at ≤ length text → Running text at at 0
-running_start text at h = record { from = omega arith; within = h; digits = omega arith; over = refl }
+-- i digits have been passed, and they are not too large yet
+pub record Passed (bytes : List ℕ) (i value : ℕ) : Type 0 where
+  pub few : i ≤ most_digits
+  pub small : value ≤ greatest_primitive
+  pub left : too_large (leading_digits bytes) ≡ large_behind i value (run_at bytes i)
 
-pub running_next : {text : List ℕ} {at i value value' d : ℕ} {k : Sign} → Running text at i value → i < length text
-    → k ≡ sign_at text i → is_digit k ≡ true → d ≡ digit_of k → value' ≡ grown value d → Running text at (i + 1) value'
-running_next {text} {at} {i} {value} {value'} {d} {k} r h here digit dv gv =
-    let e : is_digit (sign_at text i) ≡ true = rw (← here) digit in
-    let run = run_digit text i h e in
-    let from = r.from in
-    let f : d ≡ get_or text i 0 - zero_digit = dv ∙ ap digit_of here ∙ digit_value (get_or text i 0) e in
-    record {
-      from = omega arith;
-      within = omega arith;
-      digits = omega (arith, rw run at r.digits);
-      over = r.over ∙ rw (gv, f, run) (over_grown value (get_or text i 0) (run_at text (i + 1)));
-    }
+pub passed_none : (bytes : List ℕ) → Passed bytes 0 0
+passed_none bytes =
+    let z : 0 + length (leading_digits bytes) ≡ length (leading_digits bytes) = omega arith in
+    record { few = omega arith; small = omega arith; left = rw z }
 
-pub running_over : {text : List ℕ} {at i value : ℕ} {large : Bool} → Running text at i value → run_at text i ≡ []
-    → large ≡ (ltb most_digits (i - at) || ltb greatest_primitive value) → RunRead text at i large
-unfolding numeral_from
-running_over {text} {at} {i} {value} {large} r none told =
-    let from = r.from in
-    let d : length (run_at text at) ≡ i - at = omega (arith, rw none at r.digits) in
-    record { ends = omega arith; within = r.within; told = rw (d, r.over, none) told }
-
--- no run starts behind a digit
-bad_inside : (text : List ℕ) (j : ℕ) → is_digit (sign_at text j) ≡ true → bad_run_at text (j + 1) ≡ false
-bad_inside text j d = rw (add-one, d, and-false (is_digit (sign_at text (suc j))))
-
-above : (i j : ℕ) → i ≤ j → (i ≡ j → ⊥) → i < j
-above i j p q = by_test (ltb i j) (ltb-true i j) (λ e. absurd (q (omega (arith, ltb-false i j e))))
-
--- a place with no digit before it, and the run there
-module _ (text : List ℕ) (i end : ℕ) (large : Bool) (before : no_digit_before text i ≡ true) (h : i < length text)
-    (r : RunRead text i end large) where
-  pub bad_here : large ≡ true → bad_run_at text i ≡ true
+module _ {bytes : List ℕ} {i value : ℕ} (p : Passed bytes i value) where
+  passed_over : run_at bytes i ≡ [] → too_large (leading_digits bytes) ≡ false
   unfolding numeral_from
-  bad_here e =
-      let t : too_large (run_at text i) ≡ true = sym r.told ∙ e in
-      by_test (is_digit (sign_at text i)) (λ d. rw (d, before, t))
-      (λ d. absurd (not_both (too_large (run_at text i)) t (rw (run_none text i h d))))
+  passed_over e =
+      let few = p.few in
+      let n : i + 0 ≡ i = omega arith in
+      p.left ∙ rw (e, n, le-ltb most_digits i few, le-ltb greatest_primitive value p.small)
 
-  digit_passed : (j : ℕ) → i ≤ j → j < end → is_digit (sign_at text j) ≡ true
-  digit_passed j p q =
-      let ends = r.ends in
-      let e : i + (j - i) ≡ j = omega arith in
-      rw e at (rw (get_or-drop i text (j - i) 0) at (leading_within (drop i text) (j - i) (omega arith)))
+  pub passed_end : length bytes ≤ i → too_large (leading_digits bytes) ≡ false
+  passed_end h = passed_over (run_end bytes i h)
 
-  bad_passed : large ≡ false → (j : ℕ) → i ≤ j → j < end + 1 → bad_run_at text j ≡ false
-  bad_passed e j p q =
-      by_test (eqb i j)
-      (λ same. rw (← eqb-true i j same, sym r.told ∙ e) (and-false (run_starts text i)))
-      (λ other.
-      let behind = above i j p (eqb-false i j other) in
-      let f : j ≡ (j - 1) + 1 = omega arith in
-      rw f (bad_inside text (j - 1) (digit_passed (j - 1) (omega arith) (omega arith))))
+  pub passed_other : i < length bytes → is_digit (sign_at bytes i) ≡ false → too_large (leading_digits bytes) ≡ false
+  passed_other h e = passed_over (run_none bytes i h e)
 
-  pub none_before_next : no_digit_before text (end + 1) ≡ true
-  none_before_next =
-      let d = rw (get_or-drop i text (length (run_at text i)) 0) at (leading_behind (drop i text)) in
-      rw (add-one, r.ends, d)
+  module _ {d : ℕ} (h : i < length bytes) (here : sign_at bytes i ≡ Digit d) where
+    passed_digit : too_large (leading_digits bytes) ≡ large_behind (i + 1) (10 * value + d) (run_at bytes (i + 1))
+    unfolding numeral_from
+    passed_digit =
+        let e : is_digit (sign_at bytes i) ≡ true = ap is_digit here in
+        let v : get_or bytes i 0 - zero_digit ≡ d = sym (digit_value (get_or bytes i 0) e) ∙ ap digit_of here in
+        let n : i + suc (length (run_at bytes (i + 1))) ≡ i + 1 + length (run_at bytes (i + 1)) = omega arith in
+        p.left ∙ rw (run_digit bytes i h e, ← v, n)
 
-  pub bad_walked : large ≡ false
-      → first_from (bad_run_at text) i (length text - i) ≡ first_from (bad_run_at text) (end + 1) (length text - (end + 1))
-  bad_walked e =
-      let ends = r.ends in
-      let d : i + (end + 1 - i) ≡ end + 1 = omega arith in
-      rw d at (first_skipped (bad_run_at text) (length text) (end + 1 - i) i (λ j p q. bad_passed e j p (omega arith)))
+    pub passed_many : most_digits ≤ i → too_large (leading_digits bytes) ≡ true
+    passed_many q =
+        let w = run_at bytes (i + 1) in
+        passed_digit ∙ rw (lt-ltb most_digits (i + 1 + length w) (omega arith))
+
+    pub passed_great : greatest_primitive < 10 * value + d → too_large (leading_digits bytes) ≡ true
+    passed_great q =
+        let w = run_at bytes (i + 1) in
+        let v = 10 * value + d in
+        passed_digit ∙ rw (lt-ltb greatest_primitive (numeral_from v w) (omega (arith, numeral_grows v w))) (or-true _)
+
+    pub passed_on : i < most_digits → 10 * value + d ≤ greatest_primitive → Passed bytes (i + 1) (10 * value + d)
+    passed_on m g = record { few = omega arith; small = omega arith; left = passed_digit }

@@ -2,7 +2,7 @@
 -- Assumes nothing.
 use Prim.Native.Nat.{ℕ, zero, suc, ◌+◌, ◌-◌, ◌≤◌, ◌<◌, ◌^◌}
 use mathlib.Core.Path.{◌≡◌, refl, sym, ap, ◌∙◌}
-use mathlib.Core.Bool.{Bool, ◌&&◌}
+use mathlib.Core.Bool.{false, cond, ◌&&◌}
 use mathlib.Core.List.{List, [], ◌∷◌, ◌++◌}
 use native.Mathlib.Numerals.{add-one}
 use native.Mathlib.Omega.{arith}
@@ -20,12 +20,15 @@ use Rattle.grammar.specs.declared.Sign.{Sign}
 use Rattle.grammar.specs.declared.Sign.TheVariants.{Digit, Joins, Bang, Open, Close, Blank, Other}
 use Rattle.grammar.specs.Bytes.{sign_of}
 use Rattle.grammar.specs.Twins.Places.{sign_at, one_if, is_open, is_close, opened, shut, too_deep_at}
-use Rattle.text.specs.Code.Level.{level, level_with}
 use Rattle.text.proofs.ScanTests.{by_test}
 
--- what a call hands back is read as it was
-pub handed_back : (z : ℤ) → mag z < 2 ^ 63 → to_z w64 (of_z w64 z) ≡ z
-handed_back z h = to_z-of_z {w = w64} {z = z} (record { sfits = h })
+-- the running count of `(` less `)` over the bytes s
+abbrev pub level : List ℕ → ℤ
+level s = pos (opened s) -ℤ pos (shut s)
+
+-- the count behind one sign more
+abbrev level_with : ℤ → Sign → ℤ
+level_with z k = cond (is_open k) (z +ℤ pos 1) (cond (is_close k) (z -ℤ pos 1) z)
 
 -- one byte more, at the end
 opened_more : (s : List ℕ) (b : ℕ) → opened (s ++ (b ∷ [])) ≡ opened s + one_if (is_open (sign_of b))
@@ -78,13 +81,31 @@ counts_with a b Close =
 counts_with a b Blank = kept a b
 counts_with a b Other = kept a b
 
-pub level_next : (text : List ℕ) (i : ℕ) → i < length text → level (take (i + 1) text) ≡ level_with (level (take i text)) (sign_at text i)
+level_next : (text : List ℕ) (i : ℕ) → i < length text → level (take (i + 1) text) ≡ level_with (level (take i text)) (sign_at text i)
 level_next text i h =
     let s = take i text in
     let e : take (i + 1) text ≡ s ++ (get_or text i 0 ∷ []) = rw add-one (take-suc text i 0 h) in
     ap level e ∙ ap (λ (x : ℕ). pos x -ℤ pos (shut (s ++ (get_or text i 0 ∷ [])))) (opened_more s (get_or text i 0))
     ∙ ap (λ (x : ℕ). pos (opened s + one_if (is_open (sign_at text i))) -ℤ pos x) (shut_more s (get_or text i 0))
     ∙ counts_with (opened s) (shut s) (sign_at text i)
+
+pub not_open : (k : Sign) → (k ≡ Open → ⊥) → is_open k ≡ false
+not_open (Digit d) f = refl
+not_open (Joins o) f = refl
+not_open Bang f = refl
+not_open Open f = absurd (f refl)
+not_open Close f = refl
+not_open Blank f = refl
+not_open Other f = refl
+
+pub not_close : (k : Sign) → (k ≡ Close → ⊥) → is_close k ≡ false
+not_close (Digit d) f = refl
+not_close (Joins o) f = refl
+not_close Bang f = refl
+not_close Open f = refl
+not_close Close f = absurd (f refl)
+not_close Blank f = refl
+not_close Other f = refl
 
 mag_difference : (a b : ℕ) → mag (pos a -ℤ pos b) ≤ a + b
 mag_difference a zero = omega arith
@@ -93,18 +114,6 @@ mag_difference a (suc b) =
 
 difference_fits : (a b : ℕ) → a + b < 2 ^ 63 → SFits w64 (pos a -ℤ pos b)
 difference_fits a b h = record { sfits = omega (arith, mag_difference a b) }
-
-pub raised_fits : (text : List ℕ) (i : ℕ) → i < length text → length text < 2 ^ 63 → SFits w64 (level (take i text) +ℤ pos 1)
-raised_fits text i h long =
-    let f = parentheses_few (take i text) in
-    let l = length-take i text in
-    rw (← more (opened (take i text)) (shut (take i text))) (difference_fits (opened (take i text) + 1) (shut (take i text)) (omega arith))
-
-pub lowered_fits : (text : List ℕ) (i : ℕ) → i < length text → length text < 2 ^ 63 → SFits w64 (level (take i text) -ℤ pos 1)
-lowered_fits text i h long =
-    let f = parentheses_few (take i text) in
-    let l = length-take i text in
-    rw (← less (opened (take i text)) (shut (take i text))) (difference_fits (opened (take i text)) (shut (take i text) + 1) (omega arith))
 
 passes_difference : (n a b : ℕ) → lt_z (pos n) (pos a -ℤ pos b) ≡ ltb (b + n) a
 passes_difference n a zero =
@@ -119,17 +128,40 @@ passes_difference n a (suc b) =
     (λ f. rw f (sym (le-ltb (suc b + n) a (omega (arith, ltb-false a (suc b) e, ltb-false n (a - suc b) f)))))))
 
 -- the count passes at i as the row says
-pub passes_at : (text : List ℕ) (i : ℕ) → too_deep_at text i ≡ (is_open (sign_at text i) && lt_z (pos deepest) (level (take (i + 1) text)))
+passes_at : (text : List ℕ) (i : ℕ) → too_deep_at text i ≡ (is_open (sign_at text i) && lt_z (pos deepest) (level (take (i + 1) text)))
 passes_at text i = rw (passes_difference deepest (opened (take (i + 1) text)) (shut (take (i + 1) text)), add-one)
 
--- the walk: before the first byte, behind a byte, and what is told of a byte
+-- the walk: before the first byte, and behind a byte
 pub level_none : (text : List ℕ) → pos 0 ≡ level (take 0 text)
 unfolding opened shut
 level_none text = refl
 
-module _ (text : List ℕ) (i : ℕ) {z z' : ℤ} {k : Sign} (here : k ≡ sign_at text i) (behind : z' ≡ level_with z k) where
-  pub level_walked : i < length text → z ≡ level (take i text) → z' ≡ level (take (i + 1) text)
-  level_walked h e = rw (behind, here, e) (sym (level_next text i h))
+module _ (text : List ℕ) (i : ℕ) (h : i < length text) where
+  pub passes_told : sign_at text i ≡ Open → too_deep_at text i ≡ lt_z (pos deepest) (level (take (i + 1) text))
+  passes_told e = passes_at text i ∙ rw e
 
-  pub passes_told : {t : Bool} → i < length text → z ≡ level (take i text) → t ≡ (is_open k && lt_z (pos deepest) z') → too_deep_at text i ≡ t
-  passes_told {t} h e told = passes_at text i ∙ sym (rw (told, level_walked h e, here))
+  pub no_pass : is_open (sign_at text i) ≡ false → too_deep_at text i ≡ false
+  no_pass e = rw e
+
+  module _ {z : ℤ} (same : z ≡ level (take i text)) where
+    module _ (long : length text < 2 ^ 63) where
+      pub raised_fits : SFits w64 (z +ℤ pos 1)
+      raised_fits =
+          let f = parentheses_few (take i text) in
+          let l = length-take i text in
+          rw (same, ← more (opened (take i text)) (shut (take i text))) (difference_fits (opened (take i text) + 1) (shut (take i text)) (omega arith))
+
+      pub lowered_fits : SFits w64 (z -ℤ pos 1)
+      lowered_fits =
+          let f = parentheses_few (take i text) in
+          let l = length-take i text in
+          rw (same, ← less (opened (take i text)) (shut (take i text))) (difference_fits (opened (take i text)) (shut (take i text) + 1) (omega arith))
+
+      pub level_raised : sign_at text i ≡ Open → to_z w64 (of_z w64 (z +ℤ pos 1)) ≡ level (take (i + 1) text)
+      level_raised e = to_z-of_z {w = w64} {z = z +ℤ pos 1} raised_fits ∙ sym (level_next text i h ∙ rw (e, same))
+
+      pub level_lowered : sign_at text i ≡ Close → to_z w64 (of_z w64 (z -ℤ pos 1)) ≡ level (take (i + 1) text)
+      level_lowered e = to_z-of_z {w = w64} {z = z -ℤ pos 1} lowered_fits ∙ sym (level_next text i h ∙ rw (e, same))
+
+    pub level_kept : is_open (sign_at text i) ≡ false → is_close (sign_at text i) ≡ false → z ≡ level (take (i + 1) text)
+    level_kept e f = sym (level_next text i h ∙ rw (e, f, same))

@@ -5,98 +5,79 @@
 mod readers;
 mod scan;
 
-ghost use Rattle.std.specs.Prelude.{◌≡◌, ◌<◌, length};
-ghost use Rattle.terms.specs.Terms.{most_literals};
-ghost use Rattle.grammar.specs.Twins.Places.{runs_before};
-ghost use Rattle.text.specs.Code.Answers.{given, earlier, EarlyRight, CrowdedRight, ReadRight};
+ghost use Rattle.std.specs.Prelude.{◌≡◌, MatchResult};
+ghost use Rattle.std.proofs.Math.Option.{none};
+ghost use Rattle.terms.specs.declared.Reason.TheVariants.{NotASum};
+ghost use Rattle.formula.specs.Code.Held.{kinds_of, spans_of};
+ghost use Rattle.grammar.specs.Twins.Places.{surplus};
+ghost use Rattle.text.specs.Code.Answers.{given, EarlyRight, CrowdedRight, ReadRight};
 
-use crate::readers::Part;
-use crate::scan::{Found, Verdict};
-use terms::{LONGEST_TEXT, MOST_LITERALS, Refusal};
+use formula::Slot;
+use terms::{LONGEST_TEXT, Reason, Refusal};
 
-// What reading a text answers: how many literals the slices hold, with the root in the slot of twice that number less two;
-// or the first of refusals 1 to 6.
+// Where reading stopped: the length of the longest beginning of the text that some ending completes.
 #[derive(Clone, Copy)]
-pub enum Reading {
-    Held(usize),
-    Refused(Refusal),
-}
+pub struct Stop(pub usize);
 
-// Whether one of refusals 1 to 4 is given.
-#[derive(Clone, Copy)]
-enum Early {
-    Passed,
-    Refused(Refusal),
-}
+impl From<Stop> for Refusal {
+    ghost from_gives = { λ stop r. r ≡ record { reason = NotASum; at = stop.0 } };
 
-// The refusal of such a number at the place that a pass found, if it found one.
-fn given(number: u8, found: Found) -> Early
-    ensures { result ≡ given number found }
-{
-    match found {
-        Found::At(p) => Early::Refused(Refusal { number, at: p }),
-        Found::Nowhere => Early::Passed,
+    fn from(stop: Stop) -> Refusal {
+        Refusal {
+            reason: Reason::NotASum,
+            at: stop.0,
+        }
     }
 }
 
-// The first of two that is a refusal.
-fn earlier(first: Early, then: Early) -> Early
-    ensures { result ≡ earlier first then }
+// The refusal for such a reason at the place that a pass found, if it found one.
+fn given(reason: Reason, found: Option<usize>) -> Result<(), Refusal>
+    ensures { result ≡ given reason found }
 {
-    match first {
-        Early::Refused(refusal) => Early::Refused(refusal),
-        Early::Passed => then,
+    match found {
+        Some(at) => Err(Refusal { reason, at }),
+        None => Ok(()),
     }
 }
 
 // Refusals 1 to 4, each over the whole text before the next.
-#[tactic(auto, using(crate::proofs::ReadWhole::refused_at_once))]
-fn first_refusal(text: &[u8]) -> Early
+#[tactic(auto, using(crate::proofs::Early::refused_long, crate::proofs::Early::refused_run, crate::proofs::Early::deep_last))]
+fn first_refusal(text: &[u8]) -> Result<(), Refusal>
     ensures { EarlyRight text.now result }
 {
     if LONGEST_TEXT < text.len() {
-        return Early::Refused(Refusal {
-            number: 1,
+        return Err(Refusal {
+            reason: Reason::TooLong,
             at: LONGEST_TEXT,
         });
     }
-    let foreign = given(2, scan::foreign(text));
-    let run = given(3, scan::bad_run(text));
-    let deep = given(4, scan::too_deep(text));
-    earlier(foreign, earlier(run, deep))
+    given(Reason::NotAllowed, scan::foreign(text))?;
+    given(Reason::BadNumber, scan::bad_run(text))?;
+    given(Reason::TooDeep, scan::too_deep(text))
 }
 
-// Refusal 5 or 6 of a text with more numbers than the most literals; nothing is built.
-fn crowded(text: &[u8]) -> Refusal
-    requires { most_literals < runs_before text.now (length text.now) }
-    ensures { CrowdedRight text.now result }
+// Refusal 5 or 6, if the text has more numbers than the most literals; nothing is built.
+#[tactic(auto, using(crate::proofs::Early::sum_beyond, crate::proofs::Early::no_sum))]
+fn crowded(text: &[u8]) -> Result<(), Refusal>
+    ensures { MatchResult result (λ _. surplus text.now ≡ none) (CrowdedRight text.now) }
 {
-    match scan::flat(text) {
-        Verdict::Fault(p) => Refusal { number: 5, at: p },
-        Verdict::Fits => match scan::surplus(text) {
-            Found::At(p) => Refusal { number: 6, at: p },
-            Found::Nowhere => Refusal { number: 6, at: 0 },
-        },
-    }
+    let Some(at) = scan::surplus(text) else {
+        return Ok(());
+    };
+    scan::flat(text)?;
+    Err(Refusal {
+        reason: Reason::TooMany,
+        at,
+    })
 }
 
-// The expression that a text means, in positive form in the lent slices; or the first of refusals 1 to 6.
-pub fn read(text: &[u8], kinds: &mut [u16; 2047], spans: &mut [u16; 2047]) -> Reading
-    ensures { ReadRight text.now kinds.new spans.new result }
+// The expression that a text means, in positive form in the lent slots: how many literals they hold, with the root in the slot of
+// twice that number less two; or the first of refusals 1 to 6.
+pub fn read(text: &[u8], slots: &mut [Slot; 2047]) -> Result<usize, Refusal>
+    ensures { ReadRight text.now (kinds_of slots.new) (spans_of slots.new) result }
 {
-    match first_refusal(text) {
-        Early::Refused(refusal) => Reading::Refused(refusal),
-        Early::Passed => {
-            if (MOST_LITERALS as usize) < scan::numbers(text) {
-                return Reading::Refused(crowded(text));
-            }
-            match readers::whole(text, kinds, spans) {
-                Part::At(_, n) => {
-                    let literals = (n + 1) / 2;
-                    Reading::Held(literals)
-                }
-                Part::Fault(p) => Reading::Refused(Refusal { number: 5, at: p }),
-            }
-        }
-    }
+    first_refusal(text)?;
+    crowded(text)?;
+    let filled = readers::whole(text, slots)?;
+    Ok((filled + 1) / 2)
 }

@@ -1,22 +1,25 @@
 // The readers: sum, product and factor call each other in a cycle and build the positive form as they read, an operator
 // behind its left and its right operand. They stop where no ending completes what stands before.
 ghost use Rattle.std.specs.Prelude.{◌≡◌, true, ◌+◌, ◌-◌, ◌*◌, ◌≤◌, ◌<◌, length, set};
+ghost use Rattle.std.specs.List.{take_while};
 ghost use Rattle.std.proofs.Math.Option.{none};
-ghost use Rattle.formula.specs.Code.Held.{join_number};
-ghost use Rattle.grammar.specs.Bytes.{is_digit};
+ghost use Rattle.formula.specs.Code.Held.{kinds_of, spans_of, join_number};
+ghost use Rattle.grammar.specs.Bytes.{sign_of, is_digit};
 ghost use Rattle.grammar.specs.Twins.Places.{sign_at, no_digit_before, bad_run};
-ghost use Rattle.text.specs.Code.Readers.{is_blank, leads, behind, meets, binding, most_slots, slots, Ready, Skipped, OperandAt, Numbered, FactorRead, ProductRead, SumRead, Closed, WholeRead};
+ghost use Rattle.text.specs.Code.Readers.{is_blank, leads, behind, meets, binding, of_factors, most_slots, slots_of, Ready, Skipped, OperandAt, Numbered, FactorMeans, Built, FactorRead, ProductRead, SumRead, Closed, WholeRead};
 
+use crate::Stop;
 use crate::scan::digit_of;
-use formula::{join_number, literal_number, put};
-use grammar::{OF_PRODUCTS, OF_SUMS, Operator, Sign, is_close, is_digit, is_open, level, sign_of};
+use formula::{Slot, join_number, literal_number, put};
+use grammar::{OF_PRODUCTS, OF_SUMS, Operator, Sign, is_close, is_digit, level};
 use terms::Primitive;
 
-// The next place in the text and the next free slot; or the place where no ending completes the beginning.
+// Where reading stands: the next place in the text, and the next free slot. The text and the slots stay parameters beside it: of
+// a struct that lent both, each contract would have to promise that the text is kept.
 #[derive(Clone, Copy)]
-pub enum Part {
-    At(usize, usize),
-    Fault(usize),
+pub struct Cursor {
+    at: usize,
+    free: usize,
 }
 
 // Where an operand is to stand, and the sense that it is read in.
@@ -36,30 +39,14 @@ struct Numeral {
 fn is_blank(sign: Sign) -> bool
     ensures { result ≡ is_blank sign }
 {
-    match sign {
-        Sign::Digit(_) => false,
-        Sign::Joins(_) => false,
-        Sign::Bang => false,
-        Sign::Open => false,
-        Sign::Close => false,
-        Sign::Blank => true,
-        Sign::Other => false,
-    }
+    matches!(sign, Sign::Blank)
 }
 
 // Whether a sign stands before an operand: blanks and complements do.
 fn leads(sign: Sign) -> bool
     ensures { result ≡ leads sign }
 {
-    match sign {
-        Sign::Digit(_) => false,
-        Sign::Joins(_) => false,
-        Sign::Bang => true,
-        Sign::Open => false,
-        Sign::Close => false,
-        Sign::Blank => true,
-        Sign::Other => false,
-    }
+    matches!(sign, Sign::Bang | Sign::Blank)
 }
 
 // The sense of an operand behind a sign.
@@ -67,17 +54,8 @@ fn behind(sign: Sign, sense: bool) -> bool
     ensures { result ≡ behind sign sense }
 {
     match sign {
-        Sign::Digit(_) => sense,
-        Sign::Joins(operator) => match operator {
-            Operator::Plus => sense,
-            Operator::Times => sense,
-            Operator::Minus => !sense,
-        },
-        Sign::Bang => !sense,
-        Sign::Open => sense,
-        Sign::Close => sense,
-        Sign::Blank => sense,
-        Sign::Other => sense,
+        Sign::Bang | Sign::Joins(Operator::Minus) => !sense,
+        _ => sense,
     }
 }
 
@@ -86,17 +64,8 @@ fn meets(sign: Sign, sense: bool) -> bool
     ensures { result ≡ meets sign sense }
 {
     match sign {
-        Sign::Digit(_) => sense,
-        Sign::Joins(operator) => match operator {
-            Operator::Plus => !sense,
-            Operator::Times => sense,
-            Operator::Minus => sense,
-        },
-        Sign::Bang => sense,
-        Sign::Open => sense,
-        Sign::Close => sense,
-        Sign::Blank => sense,
-        Sign::Other => sense,
+        Sign::Joins(Operator::Plus) => !sense,
+        _ => sense,
     }
 }
 
@@ -105,25 +74,30 @@ fn binding(sign: Sign) -> u8
     ensures { result ≡ binding sign }
 {
     match sign {
-        Sign::Digit(_) => 0,
         Sign::Joins(operator) => level(operator),
-        Sign::Bang => 0,
-        Sign::Open => 0,
-        Sign::Close => 0,
-        Sign::Blank => 0,
-        Sign::Other => 0,
+        _ => 0,
     }
 }
 
 // What the byte at a place stands for; nothing allowed at the end.
+#[tactic(auto, using(crate::proofs::ReadSteps::beyond))]
 fn look(text: &[u8], at: usize) -> Sign
     ensures { result ≡ sign_at text.now at }
 {
-    if at < text.len() {
-        sign_of(text[at])
-    } else {
-        Sign::Other
+    match text.get(at) {
+        Some(byte) => Sign::from(*byte),
+        None => Sign::Other,
     }
+}
+
+// How many blanks stand before anything else.
+fn blanks(bytes: &[u8]) -> usize
+    ensures { result ≡ length (take_while (λ b. is_blank (sign_of b)) bytes.now) }
+{
+    bytes
+        .iter()
+        .take_while(|byte| is_blank(Sign::from(**byte)))
+        .count()
 }
 
 // The first place from `at` on that has no blank.
@@ -131,229 +105,165 @@ fn skip(text: &[u8], at: usize) -> usize
     requires { at ≤ length text.now }
     ensures { Skipped text.now at result }
 {
-    let mut i = at;
-    while is_blank(look(text, i)) {
-        i += 1;
-    }
-    i
+    at + blanks(&text[at..])
 }
 
 // Past blanks and complements to an operand, with the sense that the complements leave it.
 fn operand_at(text: &[u8], at: usize, sense: bool) -> Operand
-    requires at_in_bounds { at ≤ length text.now }
-    requires at_value { no_digit_before text.now at ≡ true }
+    requires within { at ≤ length text.now }
+    requires clear { no_digit_before text.now at ≡ true }
     ensures { OperandAt text.now at sense result }
 {
-    let mut i = at;
-    let mut s = sense;
-    loop {
-        let sign = look(text, i);
-        if leads(sign) {
-            s = behind(sign, s);
-            i += 1;
-        } else {
-            return Operand { at: i, sense: s };
+    let mut turned = sense;
+    for i in at..text.len() {
+        let sign = Sign::from(text[i]);
+        if !leads(sign) {
+            return Operand {
+                at: i,
+                sense: turned,
+            };
         }
+        turned = behind(sign, turned);
+    }
+    Operand {
+        at: text.len(),
+        sense: turned,
     }
 }
 
 // The number that starts at `at`.
 fn number(text: &[u8], at: usize) -> Numeral
-    requires at_value { is_digit (sign_at text.now at) ≡ true }
-    requires at_value_2 { no_digit_before text.now at ≡ true }
-    requires text_value { bad_run text.now ≡ none }
+    requires digit { is_digit (sign_at text.now at) ≡ true }
+    requires clear { no_digit_before text.now at ≡ true }
+    requires sound { bad_run text.now ≡ none }
     ensures { Numbered text.now at result }
 {
-    let mut value = digit_of(look(text, at)) as u16;
-    let mut i = at + 1;
-    loop {
-        let sign = look(text, i);
-        if is_digit(sign) {
-            value = 10 * value + digit_of(sign) as u16;
-            i += 1;
-        } else {
+    let mut value = u16::from(digit_of(look(text, at)));
+    for i in at + 1..text.len() {
+        let Sign::Digit(digit) = Sign::from(text[i]) else {
             return Numeral {
                 value: Primitive(value),
                 next: i,
             };
-        }
+        };
+        value = 10 * value + u16::from(digit);
+    }
+    Numeral {
+        value: Primitive(value),
+        next: text.len(),
     }
 }
 
 // A number as an operand: its literal in the next slot, and the blanks behind it passed over.
-fn literal(
-    text: &[u8],
-    at: usize,
-    sense: bool,
-    kinds: &mut [u16],
-    spans: &mut [u16],
-    next: usize,
-) -> Part
-    requires at_value { is_digit (sign_at text.now at) ≡ true }
-    requires ready { Ready text.now at next (slots kinds.old spans.old) }
-    ensures { FactorRead text.now at sense next (slots kinds.old spans.old) (slots kinds.new spans.new) result }
+fn literal(text: &[u8], slots: &mut [Slot], from: Cursor, sense: bool) -> Cursor
+    requires digit { is_digit (sign_at text.now from.at) ≡ true }
+    requires ready { Ready text.now from.at from.free (slots_of slots.old) }
+    ensures { Built FactorMeans of_factors text.now from.at sense from.free (slots_of slots.old) (slots_of slots.new) result.at result.free }
 {
-    let read = number(text, at);
-    let value = read.value;
-    let after = read.next;
-    put(kinds, spans, next, literal_number(value, sense), 1);
-    Part::At(skip(text, after), next + 1)
+    let read = number(text, from.at);
+    put(slots, from.free, literal_number(read.value, sense), 1);
+    Cursor {
+        at: skip(text, read.next),
+        free: from.free + 1,
+    }
 }
 
-// The `)` behind what was read in parentheses.
-fn closed(text: &[u8], part: Part) -> Part
-    ensures { Closed text.now part result }
+// The `)` behind what was read in parentheses, and the blanks behind it passed over.
+#[tactic(auto, using(crate::proofs::ReadFactors::close_stands))]
+fn closed(text: &[u8], inner: Cursor) -> Result<Cursor, Stop>
+    ensures { Closed text.now inner result }
 {
-    match part {
-        Part::At(j, n) => {
-            if is_close(look(text, j)) {
-                return Part::At(skip(text, j + 1), n);
-            }
-            Part::Fault(j)
+    if is_close(look(text, inner.at)) {
+        return Ok(Cursor {
+            at: skip(text, inner.at + 1),
+            free: inner.free,
+        });
+    }
+    Err(Stop(inner.at))
+}
+
+// An operator behind its right operand, where the left operand stands from the slot `start` on.
+fn join(slots: &mut [Slot], start: usize, right: Cursor, intersection: bool) -> Cursor
+    requires before { start ≤ right.free }
+    requires below { right.free < most_slots }
+    requires room { most_slots ≤ length slots.old }
+    ensures cursor { result ≡ record { at = right.at; free = right.free + 1 } }
+    ensures kinds_after { kinds_of slots.new ≡ set (kinds_of slots.old) right.free (join_number intersection) }
+    ensures spans_after { spans_of slots.new ≡ set (spans_of slots.old) right.free (right.free + 1 - start) }
+{
+    let span = (right.free + 1 - start) as u16;
+    put(slots, right.free, join_number(intersection), span);
+    Cursor {
+        at: right.at,
+        free: right.free + 1,
+    }
+}
+
+// A factor: what stands behind its complements is a number, or a sum in parentheses.
+#[cycle(factor_product_sum)]
+fn factor(text: &[u8], slots: &mut [Slot], from: Cursor, sense: bool) -> Result<Cursor, Stop>
+    requires { Ready text.now from.at from.free (slots_of slots.old) }
+    ensures { FactorRead text.now from.at sense from.free (slots_of slots.old) (slots_of slots.new) result }
+{
+    let Operand { at, sense } = operand_at(text, from.at, sense);
+    match look(text, at) {
+        Sign::Digit(_) => Ok(literal(text, slots, Cursor { at, ..from }, sense)),
+        Sign::Open => {
+            let inner = sum(text, slots, Cursor { at: at + 1, ..from }, sense)?;
+            closed(text, inner)
         }
-        Part::Fault(p) => Part::Fault(p),
+        _ => Err(Stop(at)),
     }
 }
 
-// An operator in the slot n, behind operands that stand from the slot `start` on.
-fn join(kinds: &mut [u16], spans: &mut [u16], start: usize, n: usize, intersection: bool)
-    requires start_le_n { start ≤ n }
-    requires n_lt_most_slots { n < most_slots }
-    requires most_slots_in_bounds { most_slots ≤ length kinds.old }
-    requires most_slots_in_bounds_2 { most_slots ≤ length spans.old }
-    ensures kinds_after { kinds.new ≡ set kinds.old n (join_number intersection) }
-    ensures spans_after { spans.new ≡ set spans.old n (n + 1 - start) }
+// A product: factors joined by `*`, from the left. It and the sum stay two functions, each a sentence of the grammar: one
+// over the level would take what a part means by the level in each clause.
+#[cycle(factor_product_sum)]
+fn product(text: &[u8], slots: &mut [Slot], from: Cursor, sense: bool) -> Result<Cursor, Stop>
+    requires { Ready text.now from.at from.free (slots_of slots.old) }
+    ensures { ProductRead text.now from.at sense from.free (slots_of slots.old) (slots_of slots.new) result }
 {
-    let span = (n + 1 - start) as u16;
-    put(kinds, spans, n, join_number(intersection), span);
+    let mut made = factor(text, slots, from, sense)?;
+    while OF_PRODUCTS <= binding(look(text, made.at)) {
+        let next = Cursor {
+            at: made.at + 1,
+            ..made
+        };
+        let right = factor(text, slots, next, sense)?;
+        made = join(slots, from.free, right, sense);
+    }
+    Ok(made)
 }
 
-// A factor: what stands behind its complements is a number, or an expression in parentheses.
-#[cycle(expression_factor_product_sum)]
-fn factor(
-    text: &[u8],
-    at: usize,
-    sense: bool,
-    kinds: &mut [u16],
-    spans: &mut [u16],
-    next: usize,
-) -> Part
-    requires { Ready text.now at next (slots kinds.old spans.old) }
-    ensures { FactorRead text.now at sense next (slots kinds.old spans.old) (slots kinds.new spans.new) result }
+// A sum: products joined by `+` or `-`, from the left. A whole text is one, and so is what stands in parentheses.
+#[cycle(factor_product_sum)]
+fn sum(text: &[u8], slots: &mut [Slot], from: Cursor, sense: bool) -> Result<Cursor, Stop>
+    requires { Ready text.now from.at from.free (slots_of slots.old) }
+    ensures { SumRead text.now from.at sense from.free (slots_of slots.old) (slots_of slots.new) result }
 {
-    let found = operand_at(text, at, sense);
-    let i = found.at;
-    let s = found.sense;
-    let sign = look(text, i);
-    if is_digit(sign) {
-        return literal(text, i, s, kinds, spans, next);
-    }
-    if is_open(sign) {
-        return closed(text, expression(text, i + 1, s, kinds, spans, next));
-    }
-    Part::Fault(i)
-}
-
-// A product: factors joined by `*`, from the left.
-#[cycle(expression_factor_product_sum)]
-fn product(
-    text: &[u8],
-    at: usize,
-    sense: bool,
-    kinds: &mut [u16],
-    spans: &mut [u16],
-    next: usize,
-) -> Part
-    requires { Ready text.now at next (slots kinds.old spans.old) }
-    ensures { ProductRead text.now at sense next (slots kinds.old spans.old) (slots kinds.new spans.new) result }
-{
-    match factor(text, at, sense, kinds, spans, next) {
-        Part::At(first, made) => {
-            let mut i = first;
-            let mut n = made;
-            loop {
-                let sign = look(text, i);
-                if binding(sign) < OF_PRODUCTS {
-                    return Part::At(i, n);
-                }
-                match factor(text, i + 1, sense, kinds, spans, n) {
-                    Part::At(j, m) => {
-                        join(kinds, spans, next, m, sense);
-                        i = j;
-                        n = m + 1;
-                    }
-                    Part::Fault(p) => return Part::Fault(p),
-                }
-            }
+    let mut made = product(text, slots, from, sense)?;
+    loop {
+        let sign = look(text, made.at);
+        if binding(sign) < OF_SUMS {
+            return Ok(made);
         }
-        Part::Fault(p) => Part::Fault(p),
+        let next = Cursor {
+            at: made.at + 1,
+            ..made
+        };
+        let right = product(text, slots, next, behind(sign, sense))?;
+        made = join(slots, from.free, right, meets(sign, sense));
     }
 }
 
-// A sum: products joined by `+` or `-`, from the left.
-#[cycle(expression_factor_product_sum)]
-fn sum(
-    text: &[u8],
-    at: usize,
-    sense: bool,
-    kinds: &mut [u16],
-    spans: &mut [u16],
-    next: usize,
-) -> Part
-    requires { Ready text.now at next (slots kinds.old spans.old) }
-    ensures { SumRead text.now at sense next (slots kinds.old spans.old) (slots kinds.new spans.new) result }
+// How many slots the sum takes that a whole text is; or where reading it stops.
+pub fn whole(text: &[u8], slots: &mut [Slot]) -> Result<usize, Stop>
+    requires { Ready text.now 0 0 (slots_of slots.old) }
+    ensures { WholeRead text.now (slots_of slots.new) result }
 {
-    match product(text, at, sense, kinds, spans, next) {
-        Part::At(first, made) => {
-            let mut i = first;
-            let mut n = made;
-            loop {
-                let sign = look(text, i);
-                if binding(sign) < OF_SUMS {
-                    return Part::At(i, n);
-                }
-                match product(text, i + 1, behind(sign, sense), kinds, spans, n) {
-                    Part::At(j, m) => {
-                        join(kinds, spans, next, m, meets(sign, sense));
-                        i = j;
-                        n = m + 1;
-                    }
-                    Part::Fault(p) => return Part::Fault(p),
-                }
-            }
-        }
-        Part::Fault(p) => Part::Fault(p),
+    let end = sum(text, slots, Cursor { at: 0, free: 0 }, true)?;
+    if end.at < text.len() {
+        return Err(Stop(end.at));
     }
-}
-
-// What a whole text is, and what stands in parentheses: a sum.
-#[cycle(expression_factor_product_sum)]
-fn expression(
-    text: &[u8],
-    at: usize,
-    sense: bool,
-    kinds: &mut [u16],
-    spans: &mut [u16],
-    next: usize,
-) -> Part
-    requires { Ready text.now at next (slots kinds.old spans.old) }
-    ensures { SumRead text.now at sense next (slots kinds.old spans.old) (slots kinds.new spans.new) result }
-{
-    sum(text, at, sense, kinds, spans, next)
-}
-
-// A whole text: where the expression ends and its slots do; or the place of the fault.
-pub fn whole(text: &[u8], kinds: &mut [u16], spans: &mut [u16]) -> Part
-    requires { Ready text.now 0 0 (slots kinds.old spans.old) }
-    ensures { WholeRead text.now (slots kinds.new spans.new) result }
-{
-    match expression(text, 0, true, kinds, spans, 0) {
-        Part::At(end, n) => {
-            if end == text.len() {
-                return Part::At(end, n);
-            }
-            Part::Fault(end)
-        }
-        Part::Fault(p) => Part::Fault(p),
-    }
+    Ok(end.free)
 }

@@ -1,10 +1,10 @@
--- `first_refusal` is right because each pass finds its own row's place, and the rows are taken in the page's order.
+-- A byte that is not allowed is refused where the text is not too long.
 use Rattle.std.proofs.Common.{arith}
-use Rattle.text.proofs.ReadWhole.{first_right}
+use Rattle.std.proofs.lemmas.Result.{err_from_is_err_and}
+use Rattle.text.proofs.Early.{refused_foreign}
 use Rattle.text.proofs.first_refusal.Goals as goal
 
-pub returns : goal.returns
-returns c =
-    rw (c.earlier-2.ensures, c.earlier.ensures, c.given-foreign.ensures, c.given-run.ensures, c.given-deep.ensures)
-    (first_right c.args.text.now (omega arith) c.foreign.result c.bad_run.result c.too_deep.result
-    c.foreign.ensures c.bad_run.ensures c.too_deep.ensures)
+pub returns-in_err-given : goal.returns-in_err-given
+returns-in_err-given c =
+    let p = err_from_is_err_and c.from_residual.result c.from_residual.ensures.1 in
+    rw (p.1, p.2) (refused_foreign c.args.text.now (omega arith) c.foreign.result c.foreign.ensures _ c.in_err-given.ensures)

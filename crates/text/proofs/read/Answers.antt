@@ -1,18 +1,25 @@
 -- `read` is right because the rows are tried in the page's order, and what the readers build is the positive form of the meaning.
 use Rattle.std.proofs.Common.{arith}
-use Rattle.text.proofs.ReadWhole.{passes_on, refused_early, refused_crowded, held_right, refused_fault, whole_got, whole_missed}
+use Rattle.std.proofs.lemmas.Grind.{common_steps}
+use Rattle.std.proofs.lemmas.Result.{err_from_is_err_and}
+use Rattle.text.proofs.ReadWhole.{refused_crowded, held_right, refused_fault}
+use Rattle.text.proofs.ScanRuns.{few_numbers}
 use Rattle.text.proofs.read.Goals as goal
 
-pub returns-then-numbers : goal.returns-then-numbers
-returns-then-numbers c = refused_crowded (passes_on c.in-Passed.is c.first_refusal.ensures) c.crowded.ensures
+pub returns-in_err-crowded : goal.returns-in_err-crowded
+returns-in_err-crowded c =
+    let p = err_from_is_err_and c.from_residual-in_err-crowded.result c.from_residual-in_err-crowded.ensures.1 in
+    rw (p.1, p.2) (refused_crowded c.in_ok-first_refusal.ensures _ c.in_err-crowded.ensures)
 
-pub returns-in-Refused : goal.returns-in-Refused
-returns-in-Refused c = refused_early c.in-Refused.is c.first_refusal.ensures
+pub whole-requires : goal.whole-requires
+whole-requires c =
+    let few = few_numbers c.args.text.now c.in_ok-crowded.ensures in
+    grind (arith, common_steps)
 
-pub returns-in-At : goal.returns-in-At
-returns-in-At c =
-    held_right (passes_on c.in-Passed.is c.first_refusal.ensures) (omega (arith, c.numbers.ensures)) (whole_got c.in-At.is c.whole.ensures)
+pub returns-in_err-filled : goal.returns-in_err-filled
+returns-in_err-filled c =
+    let p = err_from_is_err_and c.from_residual-in_err-filled.result c.from_residual-in_err-filled.ensures.1 in
+    rw (p.1, p.2) (refused_fault c.in_ok-first_refusal.ensures _ c.in_err-filled.ensures)
 
-pub returns-in-Fault : goal.returns-in-Fault
-returns-in-Fault c =
-    refused_fault (passes_on c.in-Passed.is c.first_refusal.ensures) (omega (arith, c.numbers.ensures)) (whole_missed c.in-Fault.is c.whole.ensures)
+pub returns : goal.returns
+returns c = held_right c.in_ok-first_refusal.ensures c.in_ok-crowded.ensures c.in_ok-filled.ensures

@@ -4,18 +4,19 @@
 --   Ready                     == what a reader may count on where it starts
 --   FactorRead, ProductRead, SumRead == its answer, as a place or as a fault
 -- Assumes nothing.
-use Rattle.std.specs.Prelude.{ℕ, zero, suc, ◌+◌, ◌-◌, ◌*◌, ◌≤◌, ◌<◌, ◌≡◌, Bool, true, false, not, List, length, get_or, drop}
+use Rattle.std.specs.Prelude.{ℕ, zero, suc, ◌+◌, ◌-◌, ◌*◌, ◌≤◌, ◌<◌, ◌≡◌, Bool, true, false, not, List, Result, MatchResult, length, get_or, drop}
 use Rattle.std.proofs.Math.Option.{none}
 use Rattle.terms.specs.Terms.{most_literals, greatest_primitive}
 use Rattle.formula.specs.Formula.{Expr}
 use Rattle.formula.specs.Typed.{Typed, number, numbers, positive, negative}
-use Rattle.formula.specs.Code.Held.{Holds}
+use Rattle.formula.specs.declared.Slot.{Slot}
+use Rattle.formula.specs.Code.Held.{kinds_of, spans_of, Holds}
 use Rattle.grammar.specs.declared.Operator.{Operator}
 use Rattle.grammar.specs.declared.Operator.TheVariants.{Plus, Times, Minus}
 use Rattle.grammar.specs.declared.Sign.{Sign}
 use Rattle.grammar.specs.declared.Sign.TheVariants.{Digit, Joins, Bang, Open, Close, Blank, Other}
-use Rattle.text.specs.declared.readers.Part.{Part}
-use Rattle.text.specs.declared.readers.Part.TheVariants.{At, Fault}
+use Rattle.text.specs.declared.Stop.{Stop}
+use Rattle.text.specs.declared.readers.Cursor.{Cursor}
 use Rattle.text.specs.declared.readers.Operand.{Operand}
 use Rattle.text.specs.declared.readers.Numeral.{Numeral}
 use Rattle.grammar.specs.Twins.Places.{sign_at, no_digit_before, is_close, runs_before, bad_run}
@@ -112,13 +113,16 @@ abbrev pub form : Bool → ℕ → Typed → Expr
 form true k e = positive k e
 form false k e = negative k e
 
--- the two slices that hold what has been read
+-- the two numbers of each slot that hold what has been read
 pub record Slots : Type 0 where
   pub kinds : List ℕ
   pub spans : List ℕ
 
 abbrev pub slots : List ℕ → List ℕ → Slots
 slots ks ss = record { kinds = ks; spans = ss }
+
+abbrev pub slots_of : List Slot → Slots
+slots_of s = slots (kinds_of s) (spans_of s)
 
 -- the slots before n are as they were
 pub record Kept (n : ℕ) (a b : Slots) : Type 0 where
@@ -219,26 +223,34 @@ pub record Built (Means : List ℕ → ℕ → ℕ → Typed → Type 0) (level 
   pub kept : Kept start a b
 
 -- a part that was read, by how the machine goes on behind it or stops in it
-pub data PartRead (Means : List ℕ → ℕ → ℕ → Typed → Type 0) (Stops : List ℕ → ℕ → ℕ → Type 0) (level : ℕ) (text : List ℕ) (at : ℕ) (sense : Bool)
-    (start : ℕ) (a b : Slots) : Part → Type 0 where
-  read : {next n : ℕ} → Built Means level text at sense start a b next n → PartRead Means Stops level text at sense start a b (At next n)
-  fault : {p : ℕ} → Stops text at p → PartRead Means Stops level text at sense start a b (Fault p)
+abbrev pub PartRead : (List ℕ → ℕ → ℕ → Typed → Type 0) → (List ℕ → ℕ → ℕ → Type 0) → ℕ → List ℕ → ℕ → Bool → ℕ → Slots → Slots → Result Cursor Stop
+    → Type 0
+PartRead Means Stops level text at sense start a b r =
+    MatchResult r (λ end. Built Means level text at sense start a b end.at end.free) (λ stop. Stops text at stop.0)
 
 -- a factor ends before any operator, a product before one of sums, and a sum before none
-abbrev pub FactorRead : List ℕ → ℕ → Bool → ℕ → Slots → Slots → Part → Type 0
+abbrev pub FactorRead : List ℕ → ℕ → Bool → ℕ → Slots → Slots → Result Cursor Stop → Type 0
 FactorRead = PartRead FactorMeans FactorStops of_factors
 
-abbrev pub ProductRead : List ℕ → ℕ → Bool → ℕ → Slots → Slots → Part → Type 0
+abbrev pub ProductRead : List ℕ → ℕ → Bool → ℕ → Slots → Slots → Result Cursor Stop → Type 0
 ProductRead = PartRead ProductMeans ProductStops of_products
 
-abbrev pub SumRead : List ℕ → ℕ → Bool → ℕ → Slots → Slots → Part → Type 0
+abbrev pub SumRead : List ℕ → ℕ → Bool → ℕ → Slots → Slots → Result Cursor Stop → Type 0
 SumRead = PartRead SumMeans SumStops of_sums
 
--- the `)` behind what was read in parentheses, and the blanks behind it; or where it is missing
-pub data Closed (text : List ℕ) : Part → Part → Type 0 where
-  shut : {j n next : ℕ} → is_close (sign_at text j) ≡ true → Skipped text (j + 1) next → Closed text (At j n) (At next n)
-  missing : {j n : ℕ} → is_close (sign_at text j) ≡ false → Closed text (At j n) (Fault j)
-  fault : {p : ℕ} → Closed text (Fault p) (Fault p)
+-- the `)` behind what was read in parentheses, and the blanks behind it
+pub record Shut (text : List ℕ) (inner outer : Cursor) : Type 0 where
+  pub close : is_close (sign_at text inner.at) ≡ true
+  pub skipped : Skipped text (inner.at + 1) outer.at
+  pub free : outer.free ≡ inner.free
+
+-- or where it is missing
+pub record Missing (text : List ℕ) (inner : Cursor) (at : ℕ) : Type 0 where
+  pub close : is_close (sign_at text inner.at) ≡ false
+  pub here : at ≡ inner.at
+
+abbrev pub Closed : List ℕ → Cursor → Result Cursor Stop → Type 0
+Closed text inner r = MatchResult r (Shut text inner) (λ stop. Missing text inner stop.0)
 
 -- the whole text means something, and the slots from the first on hold its positive form; or the machine stops
 pub record Whole (text : List ℕ) (b : Slots) (n : ℕ) : Type 0 where
@@ -248,6 +260,5 @@ pub record Whole (text : List ℕ) (b : Slots) (n : ℕ) : Type 0 where
   pub fits : n ≤ most_slots
   pub holds : Holds b.kinds b.spans (n - 1) (positive 0 meaning)
 
-pub data WholeRead (text : List ℕ) (b : Slots) : Part → Type 0 where
-  read : {n : ℕ} → Whole text b n → WholeRead text b (At (length text) n)
-  fault : {p : ℕ} → reader.read text ≡ stops p → WholeRead text b (Fault p)
+abbrev pub WholeRead : List ℕ → Slots → Result ℕ Stop → Type 0
+WholeRead text b r = MatchResult r (Whole text b) (λ stop. reader.read text ≡ stops stop.0)

@@ -1,22 +1,16 @@
--- A run that is too large is the first such, and one that is not leaves no such place behind it.
-use Rattle.std.proofs.Common.{sym, ◌∙◌}
-use Rattle.text.proofs.ScanFirst.{first_here, first_end}
-use Rattle.text.proofs.ScanBad.{bad_here, bad_walked, none_before_next}
+-- The search through the places of the text is the row's.
+use Rattle.std.proofs.Common.{rules, arith, tests, length, ap, sym, ◌∙◌}
+use Rattle.std.proofs.lemmas.Iterator.{YieldsList-from_range}
+use Rattle.std.proofs.lemmas.Iterator.Search.{find_from_yields_List}
+use Rattle.grammar.specs.Twins.Places.{bad_run_at}
+use Rattle.text.specs.Code.Found.{found_as}
+use Rattle.text.proofs.ScanFirst.{found_same, found_in_range}
 use Rattle.text.proofs.scan.bad_run.Goals as goal
 
-pub returns-then-run : goal.returns-then-run
-returns-then-run c =
-    let l = c.loop-i in
-    let h = c.loop-i-test.true in
-    let r = c.run_from-run.ensures in
-    sym (l.invariant.1 ∙ first_here _ l.i _ h (bad_here _ l.i _ _ l.invariant.0 h r c.if-run.true))
-
-pub loop-i-preserved : goal.loop-i-preserved
-loop-i-preserved c =
-    let l = c.loop-i in
-    let h = c.loop-i-test.true in
-    let r = c.run_from-run.ensures in
-    (none_before_next _ l.i _ _ l.invariant.0 h r, l.invariant.1 ∙ bad_walked _ l.i _ _ l.invariant.0 h r c.if-run.false)
-
 pub returns : goal.returns
-returns c = sym (c.loop-i.invariant.1 ∙ first_end _ c.loop-i.i _ c.loop-i-test.false)
+returns c =
+    let text = c.args.text.now in
+    let n = length text in
+    let found =
+    find_from_yields_List (bad_run_at text) _ _ c.find.result c.find.ensures.ran (YieldsList-from_range 0 n n (cc) (omega arith)) (λ x b q k. search (rules, tests)) in
+    sym (found_same c.find.result) ∙ ap found_as found ∙ found_in_range (bad_run_at text) 0 n

@@ -9,24 +9,22 @@ pub returns-in_default : goal.returns-in_default
 returns-in_default c =
     let text = c.args.text.now in
     let l = c.loop-i in
-    let h = c.loop-i-test.true in
-    let here = ap (λ k. flat_step l.mode k l.depth) (sym c.sign_of.ensures) in
-    let e = here ∙ sym c.flat_step-step.ensures ∙ c.in_default.is in
-    sym (flat_agrees text ∙ l.invariant.2 ∙ flat_stuck text l.i l.mode l.depth h e)
+    let here = ap (λ k. flat_step l.mode k l.depth) (sym c.from.ensures) in
+    let e = here ∙ sym c.flat_step.ensures ∙ c.in_default.is in
+    sym (flat_agrees text ∙ l.invariant.1 ∙ flat_stuck text l.i l.mode l.depth c.loop-i-test.true e)
 
 pub loop-i-preserved : goal.loop-i-preserved
 loop-i-preserved c =
     let text = c.args.text.now in
     let l = c.loop-i in
-    let h = c.loop-i-test.true in
-    let here = ap (λ k. flat_step l.mode k l.depth) (sym c.sign_of.ensures) in
-    let e = here ∙ sym c.flat_step-step.ensures ∙ c.in-Go.is in
+    let here = ap (λ k. flat_step l.mode k l.depth) (sym c.from.ensures) in
+    let e = here ∙ sym c.flat_step.ensures ∙ c.in-Some.is in
     let more = one_more l.mode (sign_at text l.i) l.depth e in
-    (omega arith, omega (arith, l.invariant.1, more), l.invariant.2 ∙ flat_next text l.i l.mode l.depth h e)
+    (omega (arith, l.invariant.0, more), l.invariant.1 ∙ flat_next text l.i l.mode l.depth c.loop-i-test.true e)
 
 pub returns : goal.returns
 returns c =
     let text = c.args.text.now in
     let l = c.loop-i in
-    let done = flat_done text l.i l.mode l.depth (omega (arith, l.invariant.0, c.loop-i-test.false)) in
-    sym (flat_agrees text ∙ l.invariant.2 ∙ done ∙ sym c.flat_end.ensures)
+    let done = flat_done text l.i l.mode l.depth (omega (arith, c.loop-i-test.false)) in
+    sym (flat_agrees text ∙ l.invariant.1 ∙ done ∙ sym c.flat_end.ensures)
