@@ -1,15 +1,18 @@
 -- Three costs put in order by insertion are their greatest, middle and least; an array of three compares place by place; and an
 -- expression of n literals has costs of at most n + 1. Assumes nothing.
 use Prim.Native.Nat.{ℕ, ◌+◌, ◌≤◌, ◌<◌, max, min}
-use mathlib.Core.Path.{◌≡◌, refl, sym, ap, ap₂, ◌∙◌}
-use mathlib.Core.Bool.{Bool, true, false, cond, not, ◌&&◌, ◌||◌, beq, or-false, and-false}
+use mathlib.Core.Path.{◌≡◌, refl, ap, ◌∙◌}
+use mathlib.Core.Bool.{Bool, true, false, cond, not, ◌&&◌, ◌||◌, beq}
 use mathlib.Core.List.{List, [], ◌∷◌}
 use native.Mathlib.Decide.{dec_lt}
 use native.Mathlib.Omega.{arith}
 use native.Mathlib.Nat.{max-le}
 use lib.Dec.{ltb, eqb}
-use lib.ListN.{length, get_or}
-use borrow.Author.Tests.{lt-ltb, le-ltb, eq-eqb, ne_eqb}
+use lib.ListN.{length}
+use borrow.Author.Tests.{lt-ltb, le-ltb}
+use Rattle.std.proofs.Common.{Ordering, Option, Some, Less, Equal, Greater}
+use Rattle.std.specs.Ordering.{nat_cmp, is_lt, is_some_and, partial_lt, partial_ordering_then}
+use Rattle.std.specs.Cmp.Lexicographic.{slice_partial_cmp}
 use Rattle.formula.specs.Formula.{Kind, union, intersection, Expr, literal, join, literals}
 use Rattle.formula.proofs.Marks.{literals_some}
 use Rattle.turning.specs.Tags.{Tag, mark_of, alike, priced, price, inserted, row, smaller}
@@ -38,38 +41,19 @@ pub alike_unmarked : (m : Bool) → beq false m ≡ not m
 alike_unmarked true = refl
 alike_unmarked false = refl
 
--- equal costs leave it to the rest of the row, and others decide
-decided_later : (a b : ℕ) (rest : Bool) → a ≡ b → (ltb a b || (eqb a b && rest)) ≡ rest
-decided_later a b rest e = rw (le-ltb a b (omega arith), eq-eqb a b e)
+-- the first place where two rows differ decides, as the order of arrays has it
+decided : (less same : Bool) (rest : Option Ordering) (later : Bool) → is_some_and is_lt rest ≡ later
+    → is_some_and is_lt (partial_ordering_then (Some (cond less Less (cond same Equal Greater))) rest) ≡ (less || (same && later))
+decided true same rest later h = refl
+decided false true rest later h = h
+decided false false rest later h = refl
 
-decided_here : (a b : ℕ) (rest : Bool) → (a ≡ b → ⊥) → (ltb a b || (eqb a b && rest)) ≡ ltb a b
-decided_here a b rest e = rw (ne_eqb a b e) (or-false (ltb a b))
-
--- an array of three is its three entries
-pub three : (xs : List ℕ) → length xs ≡ 3 → xs ≡ get_or xs 0 0 ∷ get_or xs 1 0 ∷ get_or xs 2 0 ∷ []
-three [] e = absurd (omega arith)
-three (a ∷ []) e = absurd (omega arith)
-three (a ∷ b ∷ []) e = absurd (omega arith)
-three (a ∷ b ∷ c ∷ []) e = refl
-three (a ∷ b ∷ c ∷ d ∷ xs) e = absurd (omega arith)
-
--- the first place where two rows of three differ decides, or else the third
-module _ (a b : List ℕ) (p : length a ≡ 3) (q : length b ≡ 3) where
-  by_places : smaller a b
-      ≡ (ltb (get_or a 0 0) (get_or b 0 0)
-      || (eqb (get_or a 0 0) (get_or b 0 0)
-      && (ltb (get_or a 1 0) (get_or b 1 0) || (eqb (get_or a 1 0) (get_or b 1 0) && ltb (get_or a 2 0) (get_or b 2 0)))))
-  unfolding smaller
-  by_places = ap₂ smaller (three a p) (three b q) ∙ rw (and-false, or-false)
-
-  pub first_decides : (get_or a 0 0 ≡ get_or b 0 0 → ⊥) → ltb (get_or a 0 0) (get_or b 0 0) ≡ smaller a b
-  first_decides h = sym (by_places ∙ decided_here _ _ _ h)
-
-  pub second_decides : get_or a 0 0 ≡ get_or b 0 0 → (get_or a 1 0 ≡ get_or b 1 0 → ⊥) → ltb (get_or a 1 0) (get_or b 1 0) ≡ smaller a b
-  second_decides e h = sym (by_places ∙ decided_later _ _ _ e ∙ decided_here _ _ _ h)
-
-  pub third_decides : get_or a 0 0 ≡ get_or b 0 0 → get_or a 1 0 ≡ get_or b 1 0 → ltb (get_or a 2 0) (get_or b 2 0) ≡ smaller a b
-  third_decides e f = sym (by_places ∙ decided_later _ _ _ e ∙ decided_later _ _ _ f)
+pub ordered : (a b : List ℕ) → length a ≡ length b → partial_lt (slice_partial_cmp (λ x y. Some (nat_cmp x y))) a b ≡ smaller a b
+unfolding smaller
+ordered [] [] e = refl
+ordered [] (y ∷ b) e = absurd (omega arith)
+ordered (x ∷ a) [] e = absurd (omega arith)
+ordered (x ∷ a) (y ∷ b) e = decided (ltb x y) (eqb x y) (slice_partial_cmp (λ x y. Some (nat_cmp x y)) a b) (smaller a b) (ordered a b (omega arith))
 
 same_three : {a b c d e f : ℕ} → a ≡ d → b ≡ e → c ≡ f → ◌≡◌ {A = List ℕ} (a ∷ b ∷ c ∷ []) (d ∷ e ∷ f ∷ [])
 same_three p q r = cc

@@ -1,13 +1,14 @@
 // Turning: each operator is priced in both orders, its children first, and keeps the smaller row; and the price of the
 // arrangement that marks make.
 ghost use Rattle.std.specs.Prelude.{◌≡◌, cond, ◌<◌, eqb, length, set};
+ghost use Rattle.formula.specs.Code.Held.{kinds_of, spans_of};
 ghost use Rattle.formula.specs.Code.Marked.{mark_byte};
 ghost use Rattle.turning.specs.Tags.{priced};
 ghost use Rattle.turning.specs.Code.Coded.{meant, joining, intersecting, Small, SettledAs, Site, Turned, MarkedSite, PricedBy};
 
 use crate::price;
 use crate::price::Tag;
-use formula::Kind;
+use formula::{Kind, Slot};
 
 // The tag that is kept, and whether it is that of the exchanged order.
 #[derive(Clone, Copy)]
@@ -20,17 +21,12 @@ pub struct Settled {
 fn is_intersection(kind: Kind) -> bool
     ensures { result ≡ intersecting kind }
 {
-    match kind {
-        Kind::Union => false,
-        Kind::Intersection => true,
-        Kind::Literal {
-            primitive: _,
-            sense: _,
-        } => false,
-    }
+    matches!(kind, Kind::Intersection)
 }
 
 // Prices an operator over settled children as it stands and exchanged, and keeps the exchanged order if its row is smaller.
+// Not inlined: every level of `turn` would take sixteen bytes more of the stack.
+#[inline(never)]
 pub fn settle(intersection: bool, l: Tag, r: Tag) -> Settled
     requires small { Small (meant l) }
     requires small_2 { Small (meant r) }
@@ -38,9 +34,7 @@ pub fn settle(intersection: bool, l: Tag, r: Tag) -> Settled
 {
     let typed = price::price(intersection, l, r);
     let turned = price::price(intersection, r, l);
-    let typed_costs = typed.costs;
-    let turned_costs = turned.costs;
-    if price::row_less(price::row(turned_costs), price::row(typed_costs)) {
+    if price::row_less(price::row(turned.costs), price::row(typed.costs)) {
         return Settled {
             tag: turned,
             exchanged: true,
@@ -57,31 +51,25 @@ fn put_mark(marks: &mut [u8], i: usize, exchanged: bool)
     requires { i < length marks.old }
     ensures { marks.new ≡ set marks.old i (mark_byte exchanged) }
 {
-    marks[i] = mark_byte(exchanged);
-}
-
-fn mark_byte(exchanged: bool) -> u8
-    ensures { result ≡ mark_byte exchanged }
-{
-    if exchanged { 1 } else { 0 }
+    marks[i] = u8::from(exchanged);
 }
 
 // Turns the expression held up to the slot i: settles both children and then the operator, and puts its mark beside it. The
 // kind is looked up again behind the children, so that no level keeps it across them.
-pub fn turn(kinds: &[u16; 2047], spans: &[u16; 2047], marks: &mut [u8; 2047], i: usize) -> Tag
-    requires { Site kinds.now spans.now i }
-    ensures { Turned kinds.now spans.now marks.old marks.new i (meant result) }
+pub fn turn(slots: &[Slot; 2047], marks: &mut [u8; 2047], i: usize) -> Tag
+    requires { Site (kinds_of slots.now) (spans_of slots.now) i }
+    ensures { Turned (kinds_of slots.now) (spans_of slots.now) marks.old marks.new i (meant result) }
 {
-    let node = formula::node_at(kinds, spans, i);
+    let node = formula::node_at(slots, i);
     let kind = node.kind;
     if formula::is_literal(kind) {
         return price::leaf();
     }
     let left = node.left;
     let right = node.right;
-    let l = turn(kinds, spans, marks, left);
-    let r = turn(kinds, spans, marks, right);
-    let to_settle = formula::node_at(kinds, spans, i).kind;
+    let l = turn(slots, marks, left);
+    let r = turn(slots, marks, right);
+    let to_settle = formula::node_at(slots, i).kind;
     let settled = settle(is_intersection(to_settle), l, r);
     put_mark(marks, i, settled.exchanged);
     settled.tag
@@ -100,19 +88,19 @@ fn price_placed(mark: u8, intersection: bool, l: Tag, r: Tag) -> Tag
 }
 
 // The tag of the expression held up to the slot i, arranged by the marks beside it. The kind is looked up again, as in `turn`.
-pub fn price_by(kinds: &[u16; 2047], spans: &[u16; 2047], marks: &[u8; 2047], i: usize) -> Tag
-    requires { MarkedSite kinds.now spans.now marks.now i }
-    ensures { PricedBy kinds.now spans.now marks.now i (meant result) }
+pub fn price_by(slots: &[Slot; 2047], marks: &[u8; 2047], i: usize) -> Tag
+    requires { MarkedSite (kinds_of slots.now) (spans_of slots.now) marks.now i }
+    ensures { PricedBy (kinds_of slots.now) (spans_of slots.now) marks.now i (meant result) }
 {
-    let node = formula::node_at(kinds, spans, i);
+    let node = formula::node_at(slots, i);
     let kind = node.kind;
     if formula::is_literal(kind) {
         return price::leaf();
     }
     let left = node.left;
     let right = node.right;
-    let l = price_by(kinds, spans, marks, left);
-    let r = price_by(kinds, spans, marks, right);
-    let to_price = formula::node_at(kinds, spans, i).kind;
+    let l = price_by(slots, marks, left);
+    let r = price_by(slots, marks, right);
+    let to_price = formula::node_at(slots, i).kind;
     price_placed(marks[i], is_intersection(to_price), l, r)
 }

@@ -2,34 +2,35 @@
 -- arranged by its own marks, give the operator's as its mark places them.
 use Rattle.std.proofs.Common.{ap, ◌∙◌}
 use Rattle.formula.specs.declared.Node.{Node}
+use Rattle.formula.specs.Code.Held.{kinds_of, spans_of}
 use Rattle.turning.specs.Code.Coded.{intersecting}
 use Rattle.turning.proofs.CodedWalk.{tested, priced_at_literal, left_marked, right_marked, before_price, after_price}
 use Rattle.turning.proofs.turn.+price_by.Goals as goal
 
 pub returns-then-is_literal : goal.returns-then-is_literal
-returns-then-is_literal t c = priced_at_literal _ _ _ _ _ (tested c.args.kinds.now c.args.spans.now c.args.i c.if-is_literal.ensures c.node_at-node.ensures) c.leaf.ensures
+returns-then-is_literal t c = priced_at_literal _ _ _ _ _ (tested (kinds_of c.args.slots.now) (spans_of c.args.slots.now) c.args.i c.if-is_literal.ensures c.node_at-node.ensures) c.leaf.ensures
 
 pub price_by-l-requires : goal.price_by-l-requires
 price_by-l-requires t c =
-    left_marked _ _ _ _ c.requires (tested c.args.kinds.now c.args.spans.now c.args.i c.if-is_literal.ensures c.node_at-node.ensures) _ t c.decreases
+    left_marked _ _ _ _ c.requires (tested (kinds_of c.args.slots.now) (spans_of c.args.slots.now) c.args.i c.if-is_literal.ensures c.node_at-node.ensures) _ t c.decreases
     (ap (λ (n : Node). n.left) c.node_at-node.ensures)
 
 pub price_by-r-requires : goal.price_by-r-requires
 price_by-r-requires t c =
-    right_marked _ _ _ _ c.requires (tested c.args.kinds.now c.args.spans.now c.args.i c.if-is_literal.ensures c.node_at-node.ensures) _ t c.decreases
+    right_marked _ _ _ _ c.requires (tested (kinds_of c.args.slots.now) (spans_of c.args.slots.now) c.args.i c.if-is_literal.ensures c.node_at-node.ensures) _ t c.decreases
     (ap (λ (n : Node). n.right) c.node_at-node.ensures)
 
 pub price_placed-requires : goal.price_placed-requires
 price_placed-requires t c =
     let p =
-    before_price _ _ _ _ c.requires (tested c.args.kinds.now c.args.spans.now c.args.i c.if-is_literal.ensures c.node_at-node.ensures) _ _
+    before_price _ _ _ _ c.requires (tested (kinds_of c.args.slots.now) (spans_of c.args.slots.now) c.args.i c.if-is_literal.ensures c.node_at-node.ensures) _ _
     (rw (ap (λ (n : Node). n.left) c.node_at-node.ensures) at c.price_by-l.ensures)
     (rw (ap (λ (n : Node). n.right) c.node_at-node.ensures) at c.price_by-r.ensures) in
     record { small = p.0; small_2 = p.1 }
 
 pub returns : goal.returns
 returns t c =
-    after_price _ _ _ _ c.requires (tested c.args.kinds.now c.args.spans.now c.args.i c.if-is_literal.ensures c.node_at-node.ensures) _ _
+    after_price _ _ _ _ c.requires (tested (kinds_of c.args.slots.now) (spans_of c.args.slots.now) c.args.i c.if-is_literal.ensures c.node_at-node.ensures) _ _
     (rw (ap (λ (n : Node). n.left) c.node_at-node.ensures) at c.price_by-l.ensures)
     (rw (ap (λ (n : Node). n.right) c.node_at-node.ensures) at c.price_by-r.ensures)
     _ _
