@@ -6,18 +6,47 @@ use mathlib.Core.Logic.{◌≢◌}
 use mathlib.Core.Bool.{Bool, true, false, cond, ◌||◌, true≢false, false≢true}
 use mathlib.Core.List.{List, [], ◌∷◌}
 use native.Mathlib.Omega.{arith}
-use native.Mathlib.Nat.{zero-add, not-suc-le-zero}
+use native.Mathlib.Nat.{zero-add, not-suc-le-zero, suc-ne-zero}
 use lib.Dec.{eqb}
-use lib.ListN.{length, get_or, set}
+use lib.ListN.{length, get_or, set, get_or-map, length-map}
 use lib.Seq.{get_or-set_same, get_or-set_other}
+use Rattle.std.proofs.Common.{Option, None, Some}
+use Rattle.std.proofs.lemmas.List.{map-set}
+use Rattle.std.specs.Option.{is_some}
 use borrow.Author.Tests.{eqb-true, eqb-false}
 use Rattle.terms.specs.Terms.{Place, first_label, most_labels}
+use Rattle.terms.specs.declared.Label.{Label}
 use Rattle.terms.specs.First.{First}
 use Rattle.weaving.specs.declared.label_store.Store as coded
 use Rattle.weaving.specs.Labels.{Slot, free, held, Store, has_label, slot_of, give_back, hand_out, labelled}
-use Rattle.weaving.specs.Code.Kept.{label_room, is_free, Free, SomeFree, Emptied, Changed, slot_free, Keeps, HasOne}
+use Rattle.weaving.specs.Code.Kept.{number_held, numbers_of, label_room, is_free, Free, SomeFree, Emptied, Changed, slot_free, Keeps, HasOne}
 use Rattle.weaving.proofs.Store.{on, off, known, eqb_same, has_label_give_back, has_label_hand_out, slot_of_below}
 use Rattle.weaving.proofs.CodeStore.{free_within}
+
+-- the numbers of the labels that places hold
+some_number : (label : Option Label) → is_some label ≡ true → number_held label ≢ 0
+some_number None some nought = false≢true some
+some_number (Some l) some nought = suc-ne-zero l.0 nought
+
+none_number : (label : Option Label) → is_some label ≡ false → number_held label ≡ 0
+none_number None none = refl
+none_number (Some l) none = absurd (true≢false none)
+
+module _ (labels : List (Option Label)) where
+  pub number_at : (i : ℕ) → get_or (numbers_of labels) i 0 ≡ number_held (get_or labels i None)
+  number_at i = get_or-map number_held labels i None
+
+  pub long_numbers : length (numbers_of labels) ≡ length labels
+  long_numbers = length-map labels number_held
+
+  pub numbers_set : (i : ℕ) (label : Option Label) → numbers_of (set labels i label) ≡ set (numbers_of labels) i (number_held label)
+  numbers_set i label = map-set number_held labels i label
+
+  pub some_held : (i : ℕ) → is_some (get_or labels i None) ≡ true → get_or (numbers_of labels) i 0 ≢ 0
+  some_held i some nought = some_number (get_or labels i None) some (sym (number_at i) ∙ nought)
+
+  pub none_held : (i : ℕ) → is_some (get_or labels i None) ≡ false → get_or (numbers_of labels) i 0 ≡ 0
+  none_held i none = number_at i ∙ none_number (get_or labels i None) none
 
 holder : Slot → Place
 holder free = 0
@@ -155,7 +184,7 @@ module _ (st : coded.Store) (hs : List ℕ) (s : Store) (k : Keeps st hs s) wher
 
   -- a place that holds none gets the lowest free label
   handed_on : (p r : ℕ) (st' : coded.Store) → get_or hs p 0 ≡ 0 → p < length hs → First (Free st) r → Changed st st' r false
-      → Keeps st' (set hs p (r + 1)) (labelled p s)
+      → Keeps st' (set hs p (suc r)) (labelled p s)
   unfolding labelled
   handed_on p r st' nought within first change =
       elim (known (has_label p s)) [
@@ -182,23 +211,23 @@ module _ (st : coded.Store) (hs : List ℕ) (s : Store) (k : Keeps st hs s) wher
           ]
 
       holders : has_label p s ≡ false → (j : ℕ) (q : Place) → get_or (hand_out p s) j free ≡ held q
-          → get_or (set hs p (r + 1)) q 0 ≡ suc (first_label + j)
+          → get_or (set hs p (suc r)) q 0 ≡ suc (first_label + j)
       holders b j q e =
           elim (known (eqb j r)) [
             | on c ↦ let x = eqb-true j r c in
                 let f : q ≡ p = same_holder e (ap (λ (i : ℕ). get_or (hand_out p s) i free) x ∙ handed_here p s r here none) in
-                rw (f, get_or-set_same hs p (r + 1) 0 within) (omega arith)
+                rw (f, get_or-set_same hs p (suc r) 0 within) (omega arith)
             | off c ↦ let f = sym (handed_other p s r j here none (eqb-false j r c)) ∙ e in
-                get_or-set_other hs p q (r + 1) 0 (λ x. true≢false (sym (holder_has q s j f) ∙ rw x b)) ∙ k.holders j q f
+                get_or-set_other hs p q (suc r) 0 (λ x. true≢false (sym (holder_has q s j f) ∙ rw x b)) ∙ k.holders j q f
           ]
 
-      others : has_label p s ≡ false → (q : Place) → has_label q (hand_out p s) ≡ false → get_or (set hs p (r + 1)) q 0 ≡ 0
+      others : has_label p s ≡ false → (q : Place) → has_label q (hand_out p s) ≡ false → get_or (set hs p (suc r)) q 0 ≡ 0
       others b q e =
           let x = either_not (eqb q p) (has_label q s) (sym (has_label_hand_out q p s) ∙ e) in
-          get_or-set_other hs p q (r + 1) 0 (eqb-false q p x.0) ∙ k.others q x.1
+          get_or-set_other hs p q (suc r) 0 (eqb-false q p x.0) ∙ k.others q x.1
 
   pub keeps_handed : (p at r : ℕ) (st' : coded.Store) → at ≡ p → get_or hs at 0 ≡ 0 → p < length hs → First (Free st) r → Changed st st' r false
-      → Keeps st' (set hs at (r + 1)) (labelled p s)
+      → Keeps st' (set hs at (suc r)) (labelled p s)
   keeps_handed p at r st' same nought within first change = rw same (handed_on p r st' (rw same at nought) within first change)
 
   -- a place gives its label back

@@ -8,15 +8,18 @@ use native.Mathlib.Omega.{arith}
 use native.Mathlib.Nat.{not-suc-le-zero}
 use native.Mathlib.Numerals.{add-one}
 use lib.Dec.{eqb}
-use lib.ListN.{length, get_or, set, replicate, length-replicate}
+use lib.ListN.{length, get_or, set, replicate}
 use lib.Seq.{sets}
+use Rattle.std.proofs.Common.{None}
 use Rattle.terms.specs.Terms.{Place, first_label, most_literals, most_labels}
+use Rattle.terms.specs.declared.LaidGate.{LaidGate}
+use Rattle.terms.specs.declared.Ends.{Ends}
+use Rattle.terms.specs.Laid.{true_places_of, false_places_of}
 use Rattle.formula.specs.Formula.{Expr, literals}
 use Rattle.weaving.specs.declared.label_store.Store as coded
-use Rattle.weaving.specs.declared.label.Ends.{Ends}
 use Rattle.weaving.specs.Gates.{Gate, gates, false_end}
 use Rattle.weaving.specs.Labels.{Store, has_label, slot_of, entered_on, labelled, left, step, records, stored, last_store, weave}
-use Rattle.weaving.specs.Code.Kept.{SomeFree, Emptied, Keeps, Handed, HasOne, GaveBack}
+use Rattle.weaving.specs.Code.Kept.{numbers_of, SomeFree, Emptied, Keeps, Handed, HasOne, GaveBack}
 use Rattle.weaving.specs.Code.Labelled as labelled_spec
 use Rattle.weaving.specs.Code.Labelled.{Leads, Labelable, own_labels, true_labels, false_labels, LabelledBy, Labelled, Labelling, Reachable, SteppedBy, Stepped, Steppable}
 use Rattle.weaving.proofs.Store.{eqb_same, has_label_labelled}
@@ -24,6 +27,7 @@ use Rattle.weaving.proofs.Places.{Numbered, more, gates_numbered, length-gates}
 use Rattle.weaving.proofs.Width.{grown_labelled, length-left}
 use Rattle.weaving.proofs.Range.{Reached, next, all_reached, length_stored_grows}
 use Rattle.weaving.proofs.Ends.{has_label_true_end, has_label_false_end}
+use Rattle.weaving.proofs.Rows.{no_gate, true_place_at, false_place_at}
 use Rattle.weaving.proofs.CodeKeep.{keeps_none, some_free, label_kept, has_one}
 
 grows : (p : Place) (s : Store) → length s ≤ length (labelled p s)
@@ -37,49 +41,50 @@ has_before : (p q : Place) (s : Store) → has_label p (labelled q (labelled p s
 has_before p q s = has_label_labelled p q (labelled p s) ∙ rw (has_last p s) (or-true (eqb p q))
 
 -- what one gate asks on its way
-module _ (st : coded.Store) (hs : List ℕ) (k t f : Place) (os ts fs : List ℕ) (a : Steppable st hs k t f os ts fs) where
-  pub entered_asked : (k < length hs) × (0 < k → 1 ≤ get_or hs k 0)
-  entered_asked =
-      let r = a.reachable in
-      (a.gate_within, λ x. (has_one st hs a.store r.keeps k (r.own x) r.few_before).some)
+module _ {st : coded.Store} {hs : List ℕ} {k t f : Place} {os ts fs : List ℕ} (a : Steppable st hs k t f os ts fs) where
+  pub leave_asked : 0 < k → HasOne hs k
+  leave_asked x = let r = a.reachable in has_one st hs a.store r.keeps k (r.own x) r.few_before
 
-  pub leave_asked : (k < length hs) × (0 < k → HasOne hs k)
-  leave_asked =
-      let r = a.reachable in
-      (a.gate_within, λ x. has_one st hs a.store r.keeps k (r.own x) r.few_before)
+  pub entered_asked : 0 < k → 1 ≤ get_or hs k 0
+  entered_asked x = (leave_asked x).some
 
-  module _ (st₁ : coded.Store) (hs₁ : List ℕ) (long₁ : length hs₁ ≡ length hs) (gone : GaveBack st hs st₁ hs₁ k) where
+  module _ {st₁ : coded.Store} {hs₁ : List ℕ} (gone : GaveBack st hs st₁ hs₁ k) where
     keeps₁ : Keeps st₁ hs₁ (left k a.store)
     keeps₁ = gone.each a.store a.reachable.keeps a.reachable.own
 
-    pub first_asked : (t < length hs₁) × SomeFree st₁
-    first_asked =
-        (omega (arith, a.true_within), some_free st₁ hs₁ _ keeps₁ (omega (arith, length-left k a.store, a.reachable.few_before)))
+    pub first_asked : SomeFree st₁
+    first_asked = some_free st₁ hs₁ _ keeps₁ (omega (arith, length-left k a.store, a.reachable.few_before))
 
-    module _ (st₂ : coded.Store) (hs₂ : List ℕ) (long₂ : length hs₂ ≡ length hs₁) (one : Handed st₁ hs₁ st₂ hs₂ t) where
+    module _ {st₂ : coded.Store} {hs₂ : List ℕ} (one : Handed st₁ hs₁ st₂ hs₂ t) where
       keeps₂ : Keeps st₂ hs₂ (labelled t (left k a.store))
       keeps₂ = one.each _ keeps₁
 
-      pub second_asked : (f < length hs₂) × SomeFree st₂
-      second_asked =
-          (omega (arith, a.false_within), some_free st₂ hs₂ _ keeps₂ (omega (arith, grows f (labelled t (left k a.store)), a.reachable.few_after)))
+      pub second_asked : SomeFree st₂
+      second_asked = some_free st₂ hs₂ _ keeps₂ (omega (arith, grows f (labelled t (left k a.store)), a.reachable.few_after))
 
-      module _ (st₃ : coded.Store) (hs₃ : List ℕ) (long₃ : length hs₃ ≡ length hs₂) (two : Handed st₂ hs₂ st₃ hs₃ f) where
+      module _ {st₃ : coded.Store} {hs₃ : List ℕ} (two : Handed st₂ hs₂ st₃ hs₃ f) where
         keeps₃ : Keeps st₃ hs₃ (labelled f (labelled t (left k a.store)))
         keeps₃ = two.each _ keeps₂
 
-        pub true_asked : (t < length hs₃) × (1 ≤ get_or hs₃ t 0)
-        true_asked = (omega (arith, a.true_within), omega (arith, label_kept st₃ hs₃ _ keeps₃ t (has_before t f (left k a.store))))
+        pub true_asked : 1 ≤ get_or hs₃ t 0
+        true_asked = omega (arith, label_kept st₃ hs₃ _ keeps₃ t (has_before t f (left k a.store)))
 
-        pub false_asked : (f < length hs₃) × (1 ≤ get_or hs₃ f 0)
-        false_asked = (omega (arith, a.false_within), omega (arith, label_kept st₃ hs₃ _ keeps₃ f (has_last f (labelled t (left k a.store)))))
+        pub false_asked : 1 ≤ get_or hs₃ f 0
+        false_asked = omega (arith, label_kept st₃ hs₃ _ keeps₃ f (has_last f (labelled t (left k a.store))))
+
+-- the places of a gate, as the code reads them
+pub steppable_at : (gates : List LaidGate) {st : coded.Store} {hs os ts fs : List ℕ} {i k : ℕ} → i ≡ k
+    → Steppable st hs k (get_or (true_places_of gates) k 0) (get_or (false_places_of gates) k 0) os ts fs
+    → Steppable st hs k (get_or gates i no_gate).true_place.0 (get_or gates i no_gate).false_place.0 os ts fs
+steppable_at gates same a = rw (true_place_at gates same, false_place_at gates same) at a
 
 -- what one gate leaves
-pub stepped : (st st₁ st₂ st₃ : coded.Store) (hs hs₁ hs₂ hs₃ : List ℕ) (k t f : Place) (os ts fs : List ℕ) (at own x y : ℕ) → at ≡ k
-    → (k ≡ 0 → own ≡ first_label) × (0 < k → own + 1 ≡ get_or hs k 0) → x + 1 ≡ get_or hs₃ t 0 → y + 1 ≡ get_or hs₃ f 0
+pub stepped : {st st₁ st₂ st₃ : coded.Store} {hs hs₁ hs₂ hs₃ : List ℕ} {k t f : Place} {os ts fs os' ts' fs' : List ℕ} (own x y : ℕ)
+    → (k ≡ 0 → own ≡ first_label) → (0 < k → own + 1 ≡ get_or hs k 0) → x + 1 ≡ get_or hs₃ t 0 → y + 1 ≡ get_or hs₃ f 0
     → GaveBack st hs st₁ hs₁ k → Handed st₁ hs₁ st₂ hs₂ t → Handed st₂ hs₂ st₃ hs₃ f
-    → Stepped st hs k t f st₃ hs₃ os ts fs (set os at own) (set ts at x) (set fs at y)
-stepped st st₁ st₂ st₃ hs hs₁ hs₂ hs₃ k t f os ts fs at own x y same entered ex ey gone one two = rw same (record { each = go })
+    → os' ≡ set os k own → ts' ≡ set ts k x → fs' ≡ set fs k y → Stepped st hs k t f st₃ hs₃ os ts fs os' ts' fs'
+stepped {st} {st₁} {st₂} {st₃} {hs} {hs₁} {hs₂} {hs₃} {k} {t} {f} {os} {ts} {fs} own x y first later ex ey gone one two eo et ef =
+    rw (eo, et, ef) (record { each = go })
   where
     own_label : (k : Place) (s : Store) → Keeps st hs s → (0 < k → has_label k s ≡ true) → (k ≡ 0 → own ≡ first_label) → (0 < k → own + 1 ≡ get_or hs k 0)
         → own ≡ entered_on k s
@@ -92,7 +97,7 @@ stepped st st₁ st₂ st₃ hs hs₁ hs₂ hs₃ k t f os ts fs at own x y same
         let keeps = two.each _ (one.each _ (gone.each s r.keeps r.own)) in
         record {
           keeps = keeps;
-          own = ap (set os k) (own_label k s r.keeps r.own entered.0 entered.1);
+          own = ap (set os k) (own_label k s r.keeps r.own first later);
           on_true = ap (set ts k) (omega (arith, label_kept st₃ hs₃ _ keeps t (has_before t f (left k s))));
           on_false = ap (set fs k) (omega (arith, label_kept st₃ hs₃ _ keeps f (has_last f (labelled t (left k s)))));
         }
@@ -214,9 +219,8 @@ module _ (trues falses : List ℕ) (n : ℕ) (os ts fs : List ℕ) where
     false_kept : get_or hs (suc n) 0 ≡ suc (first_label + slot_of (suc n) (last_store e))
     false_kept = rw (l.count, last) at (label_kept st hs g.store g.keeps (suc (literals e)) (rw last (has_label_false_end e)))
 
-    pub ends_asked : n ≤ most_literals → length hs ≡ 1026
-        → ((n < length hs) × (n + 1 < length hs)) × ((1 ≤ get_or hs n 0) × (1 ≤ get_or hs (n + 1) 0))
-    ends_asked few long = ((omega arith, omega arith), (omega (arith, true_kept), rw add-one (omega (arith, false_kept))))
+    pub ends_asked : (1 ≤ get_or hs n 0) × (1 ≤ get_or hs (n + 1) 0)
+    ends_asked = (omega (arith, true_kept), rw add-one (omega (arith, false_kept)))
 
     pub labelled_by : (r : Ends) → r.on_true.0 + 1 ≡ get_or hs n 0 → r.on_false.0 + 1 ≡ get_or hs (n + 1) 0
         → LabelledBy (weave e) os ts fs os' ts' fs' r
@@ -233,59 +237,35 @@ module _ (trues falses : List ℕ) (n : ℕ) (os ts fs : List ℕ) where
 
   -- so far the lists are labelled for every expression that has those gates
   pub record Midway (st : coded.Store) (hs : List ℕ) (k : ℕ) (os' ts' fs' : List ℕ) : Type 0 where
-    pub within : k ≤ n
-    pub held_long : length hs ≡ 1026
-    pub owns_long : length os' ≡ length os
-    pub on_trues_long : length ts' ≡ length ts
-    pub on_falses_long : length fs' ≡ length fs
     pub each : (e : Expr) → Labelable trues falses n e → Going trues falses n os ts fs e st hs k os' ts' fs'
 
-  pub midway_none : (st : coded.Store) → Emptied st → Midway st (replicate 1026 0) 0 os ts fs
-  midway_none st empty =
-      record {
-        within = omega arith;
-        held_long = length-replicate {A = ℕ} 1026 0;
-        owns_long = refl;
-        on_trues_long = refl;
-        on_falses_long = refl;
-        each = λ e l. going_none e st (replicate 1026 0) l empty (no_label 1026);
-      }
-    where
-      no_label : (m p : ℕ) → ◌≡◌ {A = ℕ} (get_or (replicate m 0) p 0) 0
-      no_label zero p = refl
-      no_label (suc m) zero = refl
-      no_label (suc m) (suc p) = no_label m p
+pub midway_none : {trues falses os ts fs : List ℕ} {n : ℕ} (m : ℕ) {st : coded.Store} → Emptied st
+    → Midway trues falses n os ts fs st (numbers_of (replicate m None)) 0 os ts fs
+midway_none m {st} empty = record { each = λ e l. going_none _ _ _ _ _ _ e st _ l empty (no_label m) }
+  where
+    no_label : (m p : ℕ) → get_or (numbers_of (replicate m None)) p 0 ≡ 0
+    no_label zero p = refl
+    no_label (suc m) zero = refl
+    no_label (suc m) (suc p) = no_label m p
 
-  module _ (l : Labelling trues falses n os ts fs) (st : coded.Store) (hs : List ℕ) (k : ℕ) (os' ts' fs' : List ℕ)
-      (m : Midway st hs k os' ts' fs') where
-    pub midway_asked : (t f : Place) → k < n → t ≡ get_or trues k 0 → f ≡ get_or falses k 0 → Steppable st hs k t f os' ts' fs'
-    midway_asked t f h et ef =
-        step_asked l.tree st hs k os' ts' fs' t f h et ef (m.each l.tree l.labelable) l.few m.held_long
-        (omega (arith, l.owns_long, m.owns_long))
-        (omega (arith, l.on_trues_long, m.on_trues_long))
-        (omega (arith, l.on_falses_long, m.on_falses_long))
+module _ {trues falses os ts fs : List ℕ} {n : ℕ} (l : Labelling trues falses n os ts fs) {st : coded.Store} {hs : List ℕ} {k : ℕ} {os' ts' fs' : List ℕ}
+    (m : Midway trues falses n os ts fs st hs k os' ts' fs') where
+  pub midway_asked : {t f : Place} → k < n → t ≡ get_or trues k 0 → f ≡ get_or falses k 0 → length hs ≡ 1026
+      → k < length os' → k < length ts' → k < length fs' → Steppable st hs k t f os' ts' fs'
+  midway_asked h et ef long = step_asked _ _ _ _ _ _ l.tree st hs k os' ts' fs' _ _ h et ef (m.each l.tree l.labelable) l.few long
 
-    pub midway_on : (t f : Place) (st₁ : coded.Store) (hs₁ os₁ ts₁ fs₁ : List ℕ) → k < n → t ≡ get_or trues k 0 → f ≡ get_or falses k 0
-        → Stepped st hs k t f st₁ hs₁ os' ts' fs' os₁ ts₁ fs₁ → length hs₁ ≡ length hs
-        → length os₁ ≡ length os' → length ts₁ ≡ length ts' → length fs₁ ≡ length fs'
-        → Midway st₁ hs₁ (k + 1) os₁ ts₁ fs₁
-    midway_on t f st₁ hs₁ os₁ ts₁ fs₁ h et ef one held_kept owns_kept on_trues_kept on_falses_kept =
-        record {
-          within = omega arith;
-          held_long = held_kept ∙ m.held_long;
-          owns_long = owns_kept ∙ m.owns_long;
-          on_trues_long = on_trues_kept ∙ m.on_trues_long;
-          on_falses_long = on_falses_kept ∙ m.on_falses_long;
-          each = λ e x. going_on e st hs k os' ts' fs' t f h et ef st₁ hs₁ os₁ ts₁ fs₁ one (m.each e x);
-        }
+  pub midway_on : {t f : Place} {st₁ : coded.Store} {hs₁ os₁ ts₁ fs₁ : List ℕ} → k < n → t ≡ get_or trues k 0 → f ≡ get_or falses k 0
+      → Stepped st hs k t f st₁ hs₁ os' ts' fs' os₁ ts₁ fs₁ → Midway trues falses n os ts fs st₁ hs₁ (k + 1) os₁ ts₁ fs₁
+  midway_on h et ef one =
+      record { each = λ e x. going_on _ _ _ _ _ _ e st hs k os' ts' fs' _ _ h et ef _ _ _ _ _ one (m.each e x) }
 
-    module _ (done_all : n ≤ k) where
-      at_end : (e : Expr) → Labelable trues falses n e → Going trues falses n os ts fs e st hs n os' ts' fs'
-      at_end e x = let same : k ≡ n = omega (arith, m.within) in rw same at (m.each e x)
+  module _ (done_all : k ≡ n) where
+    at_end : (e : Expr) → Labelable trues falses n e → Going trues falses n os ts fs e st hs n os' ts' fs'
+    at_end e x = rw done_all at (m.each e x)
 
-      pub midway_ends : ((n < length hs) × (n + 1 < length hs)) × ((1 ≤ get_or hs n 0) × (1 ≤ get_or hs (n + 1) 0))
-      midway_ends = ends_asked l.tree st hs os' ts' fs' l.labelable (at_end l.tree l.labelable) l.few m.held_long
+    pub midway_ends : (1 ≤ get_or hs n 0) × (1 ≤ get_or hs (n + 1) 0)
+    midway_ends = ends_asked _ _ _ _ _ _ l.tree st hs os' ts' fs' l.labelable (at_end l.tree l.labelable)
 
-      pub midway_labelled : (r : Ends) → r.on_true.0 + 1 ≡ get_or hs n 0 → r.on_false.0 + 1 ≡ get_or hs (n + 1) 0
-          → Labelled trues falses n os ts fs os' ts' fs' r
-      midway_labelled r et ef = record { each = λ e x. labelled_by e st hs os' ts' fs' x (at_end e x) r et ef }
+    pub midway_labelled : {r : Ends} → r.on_true.0 + 1 ≡ get_or hs n 0 → r.on_false.0 + 1 ≡ get_or hs (n + 1) 0
+        → Labelled trues falses n os ts fs os' ts' fs' r
+    midway_labelled {r} et ef = record { each = λ e x. labelled_by _ _ _ _ _ _ e st hs os' ts' fs' x (at_end e x) r et ef }

@@ -1,7 +1,7 @@
 -- Laying out a held expression writes the gates of its arrangement: taken from its root down, a slot's parent has handed it its
 -- first gate and its places, the first operand's span tells where the second one's gates begin, and the places stand at the first
 -- gate until the slot is taken, since the slots taken before it write other gates. Assumes nothing.
-use Prim.Native.Nat.{ℕ, suc, ◌+◌, ◌-◌, ◌*◌, ◌≤◌, ◌<◌}
+use Prim.Native.Nat.{ℕ, zero, suc, ◌+◌, ◌-◌, ◌*◌, ◌≤◌, ◌<◌}
 use mathlib.Core.Path.{◌≡◌, refl, sym, ap, ap₂, ◌∙◌, subst}
 use mathlib.Core.Bool.{Bool, true, false, true≢false}
 use mathlib.Core.List.{List, [], ◌∷◌, ◌++◌, map, map-append}
@@ -14,7 +14,7 @@ use Rattle.terms.proofs.Stores.{sets_append, sets_behind}
 use Rattle.terms.specs.declared.Primitive.{Primitive}
 use Rattle.formula.specs.declared.Node.{Node}
 use Rattle.formula.specs.declared.Kind as coded
-use Rattle.formula.specs.declared.Kind.TheVariants.{Literal}
+use Rattle.formula.specs.declared.Kind.TheVariants.{Union, Intersection, Literal}
 use Rattle.formula.specs.Formula as formula
 use Rattle.formula.specs.Formula.{Kind, union, intersection, Expr, literal, join, literals, operators}
 use Rattle.formula.specs.Marks.{arranged}
@@ -28,7 +28,7 @@ use Rattle.formula.proofs.Marked.{marked-length, arranged_join}
 use Rattle.weaving.specs.declared.lay.Operands.{Operands}
 use Rattle.weaving.specs.Gates.{Gate, gates}
 use Rattle.weaving.specs.Twins.Gates.{gates_from}
-use Rattle.weaving.specs.Code.Laid.{sense_byte, LaidFrom, Laid, LaidOut, Layable, Laying, laying, slot_handed, handed_down, gate_put, first_true, first_false, place_after, operands_at, in_order_of, slot_laid, slots_laid, GateLaid, HandedTo, HandedDown, Operating, Pending, none, more}
+use Rattle.weaving.specs.Code.Laid.{sense_byte, LaidFrom, Laid, LaidOut, Layable, Laying, laying, slot_handed, handed_down, gate_put, first_true, first_false, place_after, operands_at, in_order_of, slot_laid, GateLaid, HandedTo, HandedDown, Operating, Pending, none, more}
 use Rattle.weaving.proofs.Places.{gates_told}
 use Rattle.weaving.proofs.Store.{on, off, known}
 
@@ -57,6 +57,11 @@ sets_over : (l : List ℕ) (j v i : ℕ) (xs : List ℕ) → i ≤ j → j < i +
 sets_over l j v i xs low high room =
     sets-eq xs (set l j v) i (rw length-set room)
     ∙ rw (take-set-le i l j v low, drop-set-lt (i + length xs) l j v high) (sym (sets-eq xs l i room))
+
+-- the m slots from the front taken, the last first
+unfoldable pub slots_laid : (ks ss bs : List ℕ) → ℕ → Laying → Laying
+slots_laid ks ss bs zero s = s
+slots_laid ks ss bs (suc i) s = slots_laid ks ss bs i (slot_laid ks ss bs i s)
 
 -- one slot, by its kind
 module _ (ks ss bs : List ℕ) (i : ℕ) where
@@ -355,16 +360,17 @@ module _ (ks ss bs : List ℕ) where
       (λ b t f s w. taken (i - 1) r rs b t f s q c w) (λ b t f s w. taken (i - 1 - nodes r) l ls b t f s p a w) _ _ _ refl refl refl mk
 
 -- the slots that are left hold expressions with room for their gates
-pending_kept : {ks ss gs gs' : List ℕ} {m : ℕ} → length gs' ≡ length gs → Pending ks ss gs m → ((j : ℕ) → j < m → get_or gs' j 0 ≡ get_or gs j 0) → Pending ks ss gs' m
+pending_kept : {ks ss gs gs' : List ℕ} {g m : ℕ} → length gs' ≡ length gs → Pending ks ss gs g m → ((j : ℕ) → j < m → get_or gs' j 0 ≡ get_or gs j 0)
+    → Pending ks ss gs' g m
 pending_kept long none same = none
 pending_kept long (more {m = m} {i = i} {rest = rest} {e = e} p q h within room w) same =
     more p q h (omega arith) (omega (arith, same i (omega arith))) (pending_kept long w (λ j x. same j (let s = nodes_some e in omega arith)))
 
-module _ {ks ss gs : List ℕ} where
-  pub pending_slot : {i : ℕ} → Pending ks ss gs (suc i) → (i < length ks) × (i < length ss)
+module _ {ks ss gs : List ℕ} {g : ℕ} where
+  pub pending_slot : {i : ℕ} → Pending ks ss gs g (suc i) → (i < length ks) × (i < length ss)
   pending_slot (more {i = j} p q h within room w) = let a = holds_within h in let b = holds_span_within h in (omega arith, omega arith)
 
-  pub pending_gate : {i : ℕ} → Pending ks ss gs (suc i) → get_or gs i 0 < most_literals
+  pub pending_gate : {i : ℕ} → Pending ks ss gs g (suc i) → get_or gs i 0 < g
   pending_gate {i} (more {i = j} {e = e} p q h within room w) =
       let z : i ≡ j = omega arith in
       rw z (let s = literals_some e in omega arith)
@@ -415,13 +421,13 @@ not_operator union p sense e = true≢false (sym (ap is_leaf e))
 not_operator intersection p sense e = true≢false (sym (ap is_leaf e))
 
 -- an operator in the last slot that is left has room for both operands
-pub pending_operating : {ks ss gs : List ℕ} (bs : List ℕ) {i : ℕ} (k : Kind) → length ss ≡ 2047 → node_kind (get_or ks i 0) ≡ operator_kind k → Pending ks ss gs (suc i)
-    → Operating (operands_at ss bs i) ss (get_or gs i 0)
+pub pending_operating : {ks ss gs : List ℕ} {g : ℕ} (bs : List ℕ) {i : ℕ} (k : Kind) → length ss ≡ 2047 → node_kind (get_or ks i 0) ≡ operator_kind k
+    → Pending ks ss gs g (suc i) → Operating (operands_at ss bs i) ss (get_or gs i 0) g
 unfolding literals
 pending_operating {ks} {ss} {gs} bs {i} k long is (more {i = j} {e = literal x} p q (held.leaf h) within room w) =
     let z : j ≡ i = omega arith in
     absurd (not_operator k x.primitive x.sense (sym is ∙ ap (λ (a : ℕ). node_kind (get_or ks a 0)) (sym z) ∙ h.kind))
-pending_operating {ks} {ss} {gs} bs {i} k long is (more {i = j} {e = join o l r} p q (held.joint h a c) within room w) =
+pending_operating {ks} {ss} {gs} {g} bs {i} k long is (more {i = j} {e = join o l r} p q (held.joint h a c) within room w) =
     let z : j ≡ i = omega arith in
     let v = split ks ss bs j o l r h.fits a c in
     let first_in = holds_span_within v.holds_first in
@@ -430,28 +436,28 @@ pending_operating {ks} {ss} {gs} bs {i} k long is (more {i = j} {e = join o l r}
     let size = nodes_literals v.x in
     let count = v.count in
     let some = literals_some v.y in
-    subst (λ (a : ℕ). Operating (operands_at ss bs a) ss (get_or gs a 0)) z
+    subst (λ (a : ℕ). Operating (operands_at ss bs a) ss (get_or gs a 0) g) z
     (record { first_within = omega arith; second_within = omega arith; fits = omega arith })
 
-pending_joint : (ks ss gs gs' : List ℕ) (i rest : ℕ) (l r : Expr) → length gs' ≡ length gs → i < length gs → i ≡ nodes l + nodes r + rest → Holds ks ss (i - 1 - nodes r) l → Holds ks ss (i - 1) r
-    → get_or gs' (i - 1) 0 + literals r ≤ most_literals → get_or gs' (i - 1 - nodes r) 0 + literals l ≤ most_literals
-    → ((j : ℕ) → j < rest → get_or gs' j 0 ≡ get_or gs j 0) → Pending ks ss gs rest → Pending ks ss gs' i
-pending_joint ks ss gs gs' i rest l r long within e p q room_r room_l same w =
+pending_joint : (ks ss gs gs' : List ℕ) (g i rest : ℕ) (l r : Expr) → length gs' ≡ length gs → i < length gs → i ≡ nodes l + nodes r + rest → Holds ks ss (i - 1 - nodes r) l → Holds ks ss (i - 1) r
+    → get_or gs' (i - 1) 0 + literals r ≤ g → get_or gs' (i - 1 - nodes r) 0 + literals l ≤ g
+    → ((j : ℕ) → j < rest → get_or gs' j 0 ≡ get_or gs j 0) → Pending ks ss gs g rest → Pending ks ss gs' g i
+pending_joint ks ss gs gs' g i rest l r long within e p q room_r room_l same w =
     let some_l = nodes_some l in
     let some_r = nodes_some r in
     more {m = i} {i = i - 1} {rest = nodes l + rest} {e = r} (omega arith) (omega arith) q (omega arith) room_r
     (more {m = nodes l + rest} {i = i - 1 - nodes r} {rest = rest} {e = l} (omega arith) refl p (omega arith) room_l (pending_kept long w same))
 
 -- taking a slot leaves expressions with room
-pub pending_step : (ks ss bs : List ℕ) (i : ℕ) (s : Laying) → Pending ks ss s.firsts (suc i)
-    → Pending ks ss (slot_laid ks ss bs i s).firsts i
+pub pending_step : (ks ss bs : List ℕ) (g i : ℕ) (s : Laying) → Pending ks ss s.firsts g (suc i)
+    → Pending ks ss (slot_laid ks ss bs i s).firsts g i
 unfolding nodes literals
-pending_step ks ss bs i s (more {i = j} {rest = rest} {e = literal x} p q (held.leaf h) within room w) =
+pending_step ks ss bs g i s (more {i = j} {rest = rest} {e = literal x} p q (held.leaf h) within room w) =
     let z : j ≡ i = omega arith in
     let here : rest ≡ i = omega arith in
     rw (slot_gate ks ss bs i x.primitive x.sense s (ap (λ (a : ℕ). node_kind (get_or ks a 0)) (sym z) ∙ h.kind))
-    (subst (λ (a : ℕ). Pending ks ss s.firsts a) here w)
-pending_step ks ss bs i s (more {i = j} {rest = rest} {e = join k l r} p q (held.joint h a c) within room w) =
+    (subst (λ (a : ℕ). Pending ks ss s.firsts g a) here w)
+pending_step ks ss bs g i s (more {i = j} {rest = rest} {e = join k l r} p q (held.joint h a c) within room w) =
     let z : j ≡ i = omega arith in
     let long : i < length s.firsts = omega arith in
     let some_l = nodes_some l in
@@ -463,7 +469,7 @@ pending_step ks ss bs i s (more {i = j} {rest = rest} {e = join k l r} p q (held
     let span_l = holds_span left in
     let span_r = holds_span right in
     let b = get_or s.firsts i 0 in
-    let fits : b + (literals l + literals r) ≤ most_literals = rw z at room in
+    let fits : b + (literals l + literals r) ≤ g = rw z at room in
     rw (slot_operator ks ss bs i k s (ap (λ (a : ℕ). node_kind (get_or ks a 0)) (sym z) ∙ h.kind))
     (elim (known (eqb (get_or bs i 0) 1)) [
       | on x ↦ rw (x, span_r)
@@ -471,38 +477,30 @@ pending_step ks ss bs i s (more {i = j} {rest = rest} {e = join k l r} p q (held
           let here : get_or (set gs (i - 1) b) (i - 1) 0 ≡ b = read_last s.firsts _ _ (i - 1) b (omega arith) in
           let there : get_or (set gs (i - 1) b) (i - 1 - nodes r) 0 ≡ place_after b (nodes r) =
           read_first s.firsts _ _ (i - 1) b (omega arith) (λ e. omega arith) in
-          pending_joint ks ss s.firsts (set gs (i - 1) b) i rest l r (length-set gs _ b ∙ length-set s.firsts _ _) (omega arith) (omega arith) left right (omega arith) (omega arith)
+          pending_joint ks ss s.firsts (set gs (i - 1) b) g i rest l r (length-set gs _ b ∙ length-set s.firsts _ _) (omega arith) (omega arith) left right (omega arith) (omega arith)
           (λ u v. get_or-set_other gs (i - 1) u b 0 (λ e. omega arith) ∙ get_or-set_other s.firsts (i - 1 - nodes r) u (place_after b (nodes r)) 0 (λ e. omega arith)) w)
       | off x ↦ rw (x, span_r, span_l)
           (let gs = set s.firsts (i - 1) (place_after b (nodes l)) in
           let here : get_or (set gs (i - 1 - nodes r) b) (i - 1 - nodes r) 0 ≡ b = read_last s.firsts _ _ (i - 1 - nodes r) b (omega arith) in
           let there : get_or (set gs (i - 1 - nodes r) b) (i - 1) 0 ≡ place_after b (nodes l) =
           read_first s.firsts _ _ (i - 1 - nodes r) b (omega arith) (λ e. omega arith) in
-          pending_joint ks ss s.firsts (set gs (i - 1 - nodes r) b) i rest l r (length-set gs _ b ∙ length-set s.firsts _ _) (omega arith) (omega arith) left right (omega arith) (omega arith)
+          pending_joint ks ss s.firsts (set gs (i - 1 - nodes r) b) g i rest l r (length-set gs _ b ∙ length-set s.firsts _ _) (omega arith) (omega arith) left right (omega arith) (omega arith)
           (λ u v. get_or-set_other gs (i - 1 - nodes r) u b 0 (λ e. omega arith) ∙ get_or-set_other s.firsts (i - 1) u (place_after b (nodes l)) 0 (λ e. omega arith)) w)
     ])
 
 -- what is left to take, and that it leads to the same end
-pub record Onward (ks ss bs : List ℕ) (count : ℕ) (before : Laying) (left : ℕ) (now : Laying) : Type 0 where
-  pub pending : Pending ks ss now.firsts left
+pub record Onward (ks ss bs : List ℕ) (g count : ℕ) (before : Laying) (left : ℕ) (now : Laying) : Type 0 where
+  pub pending : Pending ks ss now.firsts g left
   pub same : slots_laid ks ss bs left now ≡ slots_laid ks ss bs count before
 
-pub onward_slot : {ks ss bs : List ℕ} {n : ℕ} {before now : Laying} {m : ℕ} (i : ℕ) → m ≡ suc i → Onward ks ss bs n before m now
-    → Pending ks ss now.firsts (suc i)
-onward_slot {ks} {ss} {now = now} i is w = subst (Pending ks ss now.firsts) is w.pending
-
-pub onward_step : (ks ss bs : List ℕ) (n : ℕ) (before : Laying) (m i : ℕ) (s s' : Laying) → m ≡ suc i
-    → s' ≡ slot_laid ks ss bs i s → Onward ks ss bs n before m s → Onward ks ss bs n before i s'
+pub onward_step : {ks ss bs : List ℕ} {g n : ℕ} {before : Laying} {i j : ℕ} {s s' : Laying} → s' ≡ slot_laid ks ss bs i s
+    → Onward ks ss bs g n before (suc i) s → i ≡ j → Onward ks ss bs g n before j s'
 unfolding slots_laid
-onward_step ks ss bs n before m i s s' e is w =
-    rw is (record {
-      pending = pending_step ks ss bs i s (onward_slot i e w);
-      same = ap (λ (a : ℕ). slots_laid ks ss bs a s) (sym e) ∙ w.same;
-    })
+onward_step {ks} {ss} {bs} {g} {i = i} {s = s} is w same = rw (is, ← same) (record { pending = pending_step ks ss bs g i s w.pending; same = w.same })
 
-pub onward_end : (ks ss bs : List ℕ) (n : ℕ) (before s : Laying) (m : ℕ) → m ≤ 0 → Onward ks ss bs n before m s → s ≡ slots_laid ks ss bs n before
+pub onward_end : {ks ss bs : List ℕ} {g n : ℕ} {before s : Laying} → Onward ks ss bs g n before 0 s → s ≡ slots_laid ks ss bs n before
 unfolding slots_laid
-onward_end ks ss bs n before s m low w = let z : 0 ≡ m = omega arith in ap (λ (a : ℕ). slots_laid ks ss bs a s) z ∙ w.same
+onward_end w = w.same
 
 pub layable_some : {ks ss bs : List ℕ} {n : ℕ} → Layable ks ss bs n → 1 ≤ n
 layable_some y = omega (arith, literals_some y.tree, y.count)
@@ -514,7 +512,7 @@ handed_to ps qs h = rw (h.first, h.true_place, h.false_place) refl
 
 -- the root handed its part
 pub pending_start : {ks ss bs gs ts fs gs' ts' fs' : List ℕ} {n count t f : ℕ} → Layable ks ss bs n → length gs ≡ 2047 → count ≡ 2 * n - 1
-    → HandedTo (2 * n - 2) 0 t f gs ts fs gs' ts' fs' → Pending ks ss gs' count
+    → HandedTo (2 * n - 2) 0 t f gs ts fs gs' ts' fs' → Pending ks ss gs' n count
 pending_start {gs = gs} {gs' = gs'} {n = n} {count = count} y long is h =
     let literal_count = y.count in
     let size = nodes_literals y.tree in
@@ -525,13 +523,14 @@ pending_start {gs = gs} {gs' = gs'} {n = n} {count = count} y long is h =
     more {m = count} {i = 2 * n - 2} {rest = 0} {e = y.tree} (omega arith) (omega arith) y.holds (omega arith) (omega arith) none
 
 -- all slots taken, the gates of the arrangement are written
-pub all_laid : {ks ss bs gs gs₁ gs₂ ps qs ts fs ts₁ fs₁ ps₂ qs₂ ts₂ fs₂ : List ℕ} {n count f : ℕ} → n ≤ most_literals
-    → length gs ≡ 2047 → length ts ≡ most_literals → length fs ≡ most_literals → count ≡ 2 * n - 1 → f ≡ suc n
+pub all_laid : {ks ss bs gs gs₁ gs₂ ps qs ts fs ps₁ qs₁ ts₁ fs₁ ps₂ qs₂ ts₂ fs₂ : List ℕ} {n count f : ℕ} → n ≤ most_literals
+    → length gs ≡ 2047 → length ts ≡ n → length fs ≡ n → f ≡ suc n
     → HandedTo (2 * n - 2) 0 n f gs ts fs gs₁ ts₁ fs₁
-    → laying gs₂ ps₂ qs₂ ts₂ fs₂ ≡ slots_laid ks ss bs count (laying gs₁ ps qs ts₁ fs₁)
+    → ps₁ ≡ ps → qs₁ ≡ qs → laying gs₂ ps₂ qs₂ ts₂ fs₂ ≡ slots_laid ks ss bs count (laying gs₁ ps₁ qs₁ ts₁ fs₁)
+    → count ≡ 2 * n - 1
     → LaidOut ks ss bs n ps qs ts fs ps₂ qs₂ ts₂ fs₂
 unfolding slots_laid
-all_laid {ks} {ss} {bs} {gs} {gs₁} {gs₂} {ps} {qs} {ts} {fs} {ts₁} {fs₁} {ps₂} {qs₂} {ts₂} {fs₂} {n} {count} {f} few lg lt lf c last h is =
+all_laid {ks} {ss} {bs} {gs} {gs₁} {gs₂} {ps} {qs} {ts} {fs} {ps₁} {qs₁} {ts₁} {fs₁} {ps₂} {qs₂} {ts₂} {fs₂} {n} {count} {f} few lg lt lf last h same_p same_q is c =
     record { each = go }
   where
     s : Laying
@@ -561,7 +560,7 @@ all_laid {ks} {ss} {bs} {gs} {gs₁} {gs₂} {ps} {qs} {ts} {fs} {ts₁} {fs₁}
         let size = nodes_literals e in
         let some = literals_some e in
         let w = taken ks ss bs (2 * n - 2) e ms 0 n (suc n) s₁ holds marked (root e total) in
-        let from : s₂ ≡ slots_laid ks ss bs count s₁ = is ∙ ap (slots_laid ks ss bs count) (handed_to ps qs (rw last at h)) in
+        let from : s₂ ≡ slots_laid ks ss bs count s₁ = rw (same_p, same_q) at is ∙ ap (slots_laid ks ss bs count) (handed_to ps qs (rw last at h)) in
         let all : w.after ≡ s₂ = sym (from ∙ w.same count 0 (omega arith) (omega arith)) in
         let same = literals_arranged ms e in
         let told : gates (arranged ms e) ≡ gates_from (arranged ms e) 0 n (suc n) =
@@ -579,25 +578,40 @@ pub handed_both : {k : coded.Kind} {o : Operands} {ss : List ℕ} {b g m t₁ f�
 handed_both eg em et ef p q =
     record { each = λ ps qs. handed_to ps qs q ∙ ap (slot_handed _ _ _ _) (handed_to ps qs p) ∙ rw (et, ef, eg, em) refl }
 
--- the arms of one slot
-module _ (ks ss bs : List ℕ) (i : ℕ) (node : Node) (is : node ≡ node_at ks ss i) (o : Operands)
-    (ordered : o ≡ in_order_of (get_or bs i 0) node.left node.right) where
-  ordered_at : o ≡ operands_at ss bs i
-  ordered_at = ordered ∙ ap (λ (n : Node). in_order_of (get_or bs i 0) n.left n.right) is
+-- a kind that is no literal's is an operator's
+record Operator (kind : coded.Kind) : Type 0 where
+  operator : Kind
+  is : kind ≡ operator_kind operator
 
-  pub operating : {gs : List ℕ} (k : Kind) → node.kind ≡ operator_kind k → length ss ≡ 2047 → Pending ks ss gs (suc i) → Operating o ss (get_or gs i 0)
-  operating k kind long w = rw ordered_at (pending_operating bs k long (sym (ap (λ (n : Node). n.kind) is) ∙ kind) w)
+operator_of : (kind : coded.Kind) → ((p : Primitive) (sense : Bool) → kind ≡ Literal p sense → ⊥) → Operator kind
+operator_of Union no_literal = record { operator = union; is = refl }
+operator_of Intersection no_literal = record { operator = intersection; is = refl }
+operator_of (Literal p sense) no_literal = absurd (no_literal p sense refl)
 
-  pub operator_laid : {gs ps qs ts fs : List ℕ} (k : Kind) {kind : coded.Kind} {gs' ts' fs' : List ℕ} → kind ≡ operator_kind k → node.kind ≡ kind
-      → HandedDown kind o ss (get_or gs i 0) gs ts fs gs' ts' fs'
-      → laying gs' ps qs ts' fs' ≡ slot_laid ks ss bs i (laying gs ps qs ts fs)
-  operator_laid {gs} {ps} {qs} {ts} {fs} k {kind} as_told node_is h =
-      h.each ps qs
-      ∙ rw (as_told, ordered_at) (sym (slot_operator ks ss bs i k (laying gs ps qs ts fs) (sym (ap (λ (n : Node). n.kind) is) ∙ node_is ∙ as_told)))
+-- the arms of one slot, of which b is the first gate
+module _ (ks ss bs : List ℕ) (i : ℕ) {node : Node} (is : node ≡ node_at ks ss i) where
+  kind_at : node_kind (get_or ks i 0) ≡ node.kind
+  kind_at = sym (ap (λ (n : Node). n.kind) is)
 
-  pub literal_laid : {gs ps qs ts fs : List ℕ} {p : Primitive} {sense : Bool} {ps' qs' : List ℕ} → node.kind ≡ Literal p sense
-      → GateLaid (get_or gs i 0) p.0 sense ps qs ps' qs'
-      → laying gs ps' qs' ts fs ≡ slot_laid ks ss bs i (laying gs ps qs ts fs)
-  literal_laid {gs} {ps} {qs} {ts} {fs} {p} {sense} node_is h =
-      rw (h.primitive, h.sense_put)
-      (sym (slot_gate ks ss bs i p.0 sense (laying gs ps qs ts fs) (sym (ap (λ (n : Node). n.kind) is) ∙ node_is)))
+  pub literal_laid : {gs ps qs ts fs : List ℕ} {b : ℕ} {p : Primitive} {sense : Bool} {ps' qs' ts' fs' : List ℕ} → get_or gs i 0 ≡ b → node.kind ≡ Literal p sense
+      → GateLaid b p.0 sense ps qs ps' qs' → ts' ≡ ts → fs' ≡ fs → laying gs ps' qs' ts' fs' ≡ slot_laid ks ss bs i (laying gs ps qs ts fs)
+  literal_laid {gs} {ps} {qs} {ts} {fs} {p = p} {sense = sense} first node_is h same_t same_f =
+      rw (h.primitive, h.sense_put, same_t, same_f, ← first) (sym (slot_gate ks ss bs i p.0 sense (laying gs ps qs ts fs) (kind_at ∙ node_is)))
+
+  module _ {o : Operands} (ordered : o ≡ in_order_of (get_or bs i 0) node.left node.right)
+      (no_literal : (p : Primitive) (sense : Bool) → node.kind ≡ Literal p sense → ⊥) where
+    ordered_at : o ≡ operands_at ss bs i
+    ordered_at = ordered ∙ ap (λ (n : Node). in_order_of (get_or bs i 0) n.left n.right) is
+
+    pub operating : {gs : List ℕ} {b g : ℕ} → get_or gs i 0 ≡ b → length ss ≡ 2047 → Pending ks ss gs g (suc i) → Operating o ss b g
+    operating first long w =
+        let k = operator_of node.kind no_literal in
+        rw (ordered_at, ← first) (pending_operating bs k.operator long (kind_at ∙ k.is) w)
+
+    pub operator_laid : {gs ps qs ts fs gs' ps' qs' ts' fs' : List ℕ} {b : ℕ} → get_or gs i 0 ≡ b → HandedDown node.kind o ss b gs ts fs gs' ts' fs' → ps' ≡ ps
+        → qs' ≡ qs → laying gs' ps' qs' ts' fs' ≡ slot_laid ks ss bs i (laying gs ps qs ts fs)
+    operator_laid {gs} {ps} {qs} {ts} {fs} first h same_p same_q =
+        let k = operator_of node.kind no_literal in
+        rw (same_p, same_q)
+        (h.each ps qs
+        ∙ rw (k.is, ordered_at, ← first) (sym (slot_operator ks ss bs i k.operator (laying gs ps qs ts fs) (kind_at ∙ k.is))))

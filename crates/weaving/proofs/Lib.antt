@@ -1,4 +1,5 @@
 pub mod Named
+pub mod Rows
 pub mod Store
 pub mod Places
 pub mod Following

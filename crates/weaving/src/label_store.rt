@@ -18,39 +18,39 @@ fn bit_of(label: Label) -> u16
     1 << label.0
 }
 
-// A store whose labels are all free.
-pub fn all_free() -> Store
-    ensures { Emptied result }
-{
-    Store { free: 0xffff }
-}
-
-// The lowest free label: so many bits are clear below the lowest that is set.
-pub fn lowest_free(store: Store) -> Label
-    requires { SomeFree store }
-    ensures { First (Free store) result.0 }
-{
-    Label(u16::trailing_zeros(store.free) as u8)
-}
-
-// The store with the label taken.
-pub fn take(store: Store, label: Label) -> Store
-    requires { label.0 < label_room }
-    ensures { Changed store result label.0 false }
-{
-    let bit = bit_of(label);
-    Store {
-        free: store.free & !bit,
+impl Store {
+    // A store whose labels are all free.
+    pub fn all_free() -> Store
+        ensures { Emptied result }
+    {
+        Store { free: u16::MAX }
     }
-}
 
-// The store with the label free again.
-pub fn give_back(store: Store, label: Label) -> Store
-    requires { label.0 < label_room }
-    ensures { Changed store result label.0 true }
-{
-    let bit = bit_of(label);
-    Store {
-        free: store.free | bit,
+    // The lowest free label: so many bits are clear below the lowest that is set.
+    pub fn lowest_free(self) -> Label
+        requires { SomeFree self }
+        ensures { First (Free self) result.0 }
+    {
+        Label(self.free.trailing_zeros() as u8)
+    }
+
+    // The store with the label taken.
+    pub fn take(self, label: Label) -> Store
+        requires { label.0 < label_room }
+        ensures { Changed self result label.0 false }
+    {
+        Store {
+            free: self.free & !bit_of(label),
+        }
+    }
+
+    // The store with the label free again.
+    pub fn give_back(self, label: Label) -> Store
+        requires { label.0 < label_room }
+        ensures { Changed self result label.0 true }
+    {
+        Store {
+            free: self.free | bit_of(label),
+        }
     }
 }

@@ -1,12 +1,14 @@
 // The gates of a held expression as its marks arrange it, written out with their places. No recursion: the slots are taken from the
 // root down, so that an operator comes before its operands and has handed them their first gate and their places. No two of the
-// operands that wait share a gate, so where one leads as a whole stands in the gates' own lists, at its first gate.
+// operands that wait share a gate, so where one leads as a whole stands at its first gate.
 ghost use Rattle.std.specs.Prelude.{◌≡◌, suc, ◌+◌, ◌*◌, ◌/◌, ◌≤◌, ◌<◌, length};
 ghost use Rattle.terms.specs.Terms.{most_literals};
-ghost use Rattle.weaving.specs.Code.Laid.{laying, GateLaid, HandedTo, HandedDown, slot_laid, slots_laid, sense_byte, in_order_of, first_true, first_false, Pending, Operating, Layable, LaidOut};
+ghost use Rattle.terms.specs.Laid.{primitives_of, senses_of, true_places_of, false_places_of};
+ghost use Rattle.formula.specs.Code.Held.{kinds_of, spans_of};
+ghost use Rattle.weaving.specs.Code.Laid.{places_of, laying_of, SameLiterals, SamePlaces, SameLabels, GateLaid, HandedTo, HandedDown, slot_laid, in_order_of, first_true, first_false, Pending, Operating, Layable, LaidOut};
 
-use formula::Kind;
-use terms::{Place, Primitive};
+use formula::{Kind, Slot};
+use terms::{LaidGate, Place, Primitive};
 
 // The slots of an operator's operands, in the order of the gates.
 #[derive(Clone, Copy)]
@@ -18,16 +20,12 @@ pub struct Operands {
 fn in_order(mark: u8, left: usize, right: usize) -> Operands
     ensures { result ≡ in_order_of mark left right }
 {
-    if mark == 1 {
-        return Operands {
-            first: right,
-            second: left,
-        };
-    }
-    Operands {
-        first: left,
-        second: right,
-    }
+    let (first, second) = if mark == 1 {
+        (right, left)
+    } else {
+        (left, right)
+    };
+    Operands { first, second }
 }
 
 // Where the first operand leads if true, and if false, if the first gate of the second one is `next`.
@@ -35,12 +33,8 @@ fn first_true(kind: Kind, next: Place, t: Place) -> Place
     ensures { result.0 ≡ first_true kind next.0 t.0 }
 {
     match kind {
-        Kind::Union => t,
         Kind::Intersection => next,
-        Kind::Literal {
-            primitive: _,
-            sense: _,
-        } => t,
+        _ => t,
     }
 }
 
@@ -49,11 +43,7 @@ fn first_false(kind: Kind, next: Place, f: Place) -> Place
 {
     match kind {
         Kind::Union => next,
-        Kind::Intersection => f,
-        Kind::Literal {
-            primitive: _,
-            sense: _,
-        } => f,
+        _ => f,
     }
 }
 
@@ -62,57 +52,33 @@ fn after(b: Place, span: u16) -> Place
     requires { b.0 + (span + 1) / 2 ≤ most_literals }
     ensures { result.0 ≡ b.0 + (span + 1) / 2 }
 {
-    Place(b.0 + (span + 1) / 2)
-}
-
-// A place as an index.
-pub fn wide(place: Place) -> usize
-    ensures { result ≡ place.0 }
-{
-    place.0 as usize
-}
-
-fn sense_byte(sense: bool) -> u8
-    ensures { result ≡ sense_byte sense }
-{
-    if sense { 1 } else { 0 }
+    Place(b.0 + span.div_ceil(2))
 }
 
 // One gate: what its literal carries. Its two places stand there already, as they were handed down.
-fn lay_gate(
-    b: Place,
-    primitive: Primitive,
-    sense: bool,
-    primitives: &mut [u16; 1024],
-    senses: &mut [u8; 1024],
-)
-    requires { b.0 < most_literals }
-    ensures { GateLaid b.0 primitive.0 sense primitives.old senses.old primitives.new senses.new }
+fn lay_gate(b: Place, primitive: Primitive, sense: bool, gates: &mut [LaidGate])
+    requires { b.0 < length gates.old }
+    ensures laid { GateLaid b.0 primitive.0 sense (primitives_of gates.old) (senses_of gates.old) (primitives_of gates.new) (senses_of gates.new) }
+    ensures places_kept { SamePlaces gates.old gates.new }
+    ensures labels_kept { SameLabels gates.old gates.new }
 {
-    let at = wide(b);
-    primitives[at] = primitive.0;
-    senses[at] = sense_byte(sense);
+    let gate = &mut gates[usize::from(b)];
+    gate.primitive = primitive;
+    gate.sense = u8::from(sense);
 }
 
 // Hands the operand in the slot `at` its first gate b, and writes there where it leads as a whole, if true and if false.
-fn hand(
-    at: usize,
-    b: Place,
-    t: Place,
-    f: Place,
-    firsts: &mut [u16; 2047],
-    trues: &mut [u16],
-    falses: &mut [u16],
-)
+fn hand(at: usize, b: Place, t: Place, f: Place, firsts: &mut [Place; 2047], gates: &mut [LaidGate])
     requires at_bound { at < 2047 }
-    requires b_in_bounds { b.0 < length trues.old }
-    requires b_in_bounds_2 { b.0 < length falses.old }
-    ensures { HandedTo at b.0 t.0 f.0 firsts.old trues.old falses.old firsts.new trues.new falses.new }
+    requires b_in_bounds { b.0 < length gates.old }
+    ensures handed { HandedTo at b.0 t.0 f.0 (places_of firsts.old) (true_places_of gates.old) (false_places_of gates.old) (places_of firsts.new) (true_places_of gates.new) (false_places_of gates.new) }
+    ensures literals_kept { SameLiterals gates.old gates.new }
+    ensures labels_kept { SameLabels gates.old gates.new }
 {
-    firsts[at] = b.0;
-    let gate = wide(b);
-    trues[gate] = t.0;
-    falses[gate] = f.0;
+    firsts[at] = b;
+    let gate = &mut gates[usize::from(b)];
+    gate.true_place = t;
+    gate.false_place = f;
 }
 
 // An operator whose first gate is b reads there where it leads as a whole, and hands both operands their part. The first one's
@@ -120,119 +86,67 @@ fn hand(
 fn lay_operator(
     kind: Kind,
     operands: Operands,
-    spans: &[u16; 2047],
+    slots: &[Slot; 2047],
     b: Place,
-    firsts: &mut [u16; 2047],
-    trues: &mut [u16; 1024],
-    falses: &mut [u16; 1024],
+    firsts: &mut [Place; 2047],
+    gates: &mut [LaidGate],
 )
-    requires { Operating operands spans.now b.0 }
-    ensures { HandedDown kind operands spans.now b.0 firsts.old trues.old falses.old firsts.new trues.new falses.new }
+    requires operating { Operating operands (spans_of slots.now) b.0 (length gates.old) }
+    requires few { length gates.old ≤ most_literals }
+    ensures handed { HandedDown kind operands (spans_of slots.now) b.0 (places_of firsts.old) (true_places_of gates.old) (false_places_of gates.old) (places_of firsts.new) (true_places_of gates.new) (false_places_of gates.new) }
+    ensures literals_kept { SameLiterals gates.old gates.new }
+    ensures labels_kept { SameLabels gates.old gates.new }
 {
-    let gate = wide(b);
-    let t = Place(trues[gate]);
-    let f = Place(falses[gate]);
-    let first = operands.first;
-    let second = operands.second;
-    let next = after(b, spans[first]);
-    hand(second, next, t, f, firsts, trues, falses);
+    let LaidGate {
+        true_place: t,
+        false_place: f,
+        ..
+    } = gates[usize::from(b)];
+    let Operands { first, second } = operands;
+    let next = after(b, slots[first].span);
+    hand(second, next, t, f, firsts, gates);
     let on_true = first_true(kind, next, t);
     let on_false = first_false(kind, next, f);
-    hand(first, b, on_true, on_false, firsts, trues, falses);
+    hand(first, b, on_true, on_false, firsts, gates);
 }
 
 // The slot i: a literal is a gate, with the places that it was handed, and an operator hands down.
 fn lay_slot(
-    kinds: &[u16; 2047],
-    spans: &[u16; 2047],
+    slots: &[Slot; 2047],
     marks: &[u8; 2047],
     i: usize,
-    firsts: &mut [u16; 2047],
-    primitives: &mut [u16; 1024],
-    senses: &mut [u8; 1024],
-    trues: &mut [u16; 1024],
-    falses: &mut [u16; 1024],
+    firsts: &mut [Place; 2047],
+    gates: &mut [LaidGate],
 )
-    requires { Pending kinds.now spans.now firsts.old (suc i) }
-    ensures { laying firsts.new primitives.new senses.new trues.new falses.new ≡ slot_laid kinds.now spans.now marks.now i (laying firsts.old primitives.old senses.old trues.old falses.old) }
+    requires pending { Pending (kinds_of slots.now) (spans_of slots.now) (places_of firsts.old) (length gates.old) (suc i) }
+    requires few { length gates.old ≤ most_literals }
+    ensures laid { laying_of firsts.new gates.new ≡ slot_laid (kinds_of slots.now) (spans_of slots.now) marks.now i (laying_of firsts.old gates.old) }
+    ensures labels_kept { SameLabels gates.old gates.new }
 {
-    let node = formula::node_at(kinds, spans, i);
-    let operands = in_order(marks[i], node.left, node.right);
-    let b = Place(firsts[i]);
-    let kind = node.kind;
-    match kind {
-        Kind::Union => {
-            lay_operator(kind, operands, spans, b, firsts, trues, falses);
-        }
-        Kind::Intersection => {
-            lay_operator(kind, operands, spans, b, firsts, trues, falses);
-        }
-        Kind::Literal { primitive, sense } => {
-            lay_gate(b, primitive, sense, primitives, senses);
+    let node = formula::node_at(slots, i);
+    let b = firsts[i];
+    match node.kind {
+        Kind::Literal { primitive, sense } => lay_gate(b, primitive, sense, gates),
+        kind => {
+            let operands = in_order(marks[i], node.left, node.right);
+            lay_operator(kind, operands, slots, b, firsts, gates);
         }
     }
 }
 
-// The `count` slots from the front, the last first.
-fn lay_slots(
-    kinds: &[u16; 2047],
-    spans: &[u16; 2047],
-    marks: &[u8; 2047],
-    count: usize,
-    firsts: &mut [u16; 2047],
-    primitives: &mut [u16; 1024],
-    senses: &mut [u8; 1024],
-    trues: &mut [u16; 1024],
-    falses: &mut [u16; 1024],
-)
-    requires { Pending kinds.now spans.now firsts.old count }
-    ensures { laying firsts.new primitives.new senses.new trues.new falses.new ≡ slots_laid kinds.now spans.now marks.now count (laying firsts.old primitives.old senses.old trues.old falses.old) }
+// Lays out the gates of the held expression, one a literal: what each literal carries, and its true and false place.
+pub fn lay(slots: &[Slot; 2047], marks: &[u8; 2047], gates: &mut [LaidGate])
+    requires { Layable (kinds_of slots.now) (spans_of slots.now) marks.now (length gates.old) }
+    ensures laid { LaidOut (kinds_of slots.now) (spans_of slots.now) marks.now (length gates.old) (primitives_of gates.old) (senses_of gates.old) (true_places_of gates.old) (false_places_of gates.old) (primitives_of gates.new) (senses_of gates.new) (true_places_of gates.new) (false_places_of gates.new) }
+    ensures labels_kept { SameLabels gates.old gates.new }
 {
-    let mut left = count;
-    while left > 0 {
-        left -= 1;
-        lay_slot(
-            kinds, spans, marks, left, firsts, primitives, senses, trues, falses,
-        );
-    }
-}
-
-// Lays out the n gates of the held expression: what each literal carries, and its true and false place.
-pub fn lay(
-    kinds: &[u16; 2047],
-    spans: &[u16; 2047],
-    marks: &[u8; 2047],
-    n: usize,
-    primitives: &mut [u16; 1024],
-    senses: &mut [u8; 1024],
-    trues: &mut [u16; 1024],
-    falses: &mut [u16; 1024],
-)
-    requires { Layable kinds.now spans.now marks.now n }
-    ensures { LaidOut kinds.now spans.now marks.now n primitives.old senses.old trues.old falses.old primitives.new senses.new trues.new falses.new }
-{
-    let mut firsts = [0u16; 2047];
+    let n = gates.len();
     let root = 2 * n - 2;
     let true_end = Place(n as u16);
-    let false_end = Place((n + 1) as u16);
-    hand(
-        root,
-        Place(0),
-        true_end,
-        false_end,
-        &mut firsts,
-        trues,
-        falses,
-    );
-    lay_slots(
-        kinds,
-        spans,
-        marks,
-        root + 1,
-        &mut firsts,
-        primitives,
-        senses,
-        trues,
-        falses,
-    );
+    let false_end = Place(n as u16 + 1);
+    let mut firsts = [Place(0); 2047];
+    hand(root, Place(0), true_end, false_end, &mut firsts, gates);
+    for i in (0..=root).rev() {
+        lay_slot(slots, marks, i, &mut firsts, gates);
+    }
 }

@@ -1,11 +1,13 @@
 -- The label store in code: what it promises, and how it keeps the store of the page.
 --   is_free st l      == the label l is free in the store st: its bit of the word is set; Free says so as a statement
 --   Emptied, Changed  == a store with every label free, and one that differs from another in one label
---   Keeps st hs s     == the code's store st, with hs for the label of each place, plus one, keeps the page's store s
+--   numbers_of        == the label of each place, plus one, and nought for none
+--   Keeps st hs s     == the code's store st, with hs for those numbers, keeps the page's store s
 -- Assumes nothing.
-use Rattle.std.specs.Prelude.{ℕ, suc, ◌+◌, ◌≤◌, ◌<◌, ◌≡◌, ◌≢◌, Bool, true, false, ◌&&◌, List, ltb, get_or}
+use Rattle.std.specs.Prelude.{ℕ, suc, ◌+◌, ◌≤◌, ◌<◌, ◌≡◌, ◌≢◌, Bool, true, false, ◌&&◌, List, map, ltb, get_or, Option, None, Some}
 use Rattle.terms.specs.Terms.{Place, Label, first_label, most_labels}
 use Rattle.terms.specs.Code.Bits.{bit}
+use Rattle.terms.specs.declared.Label as labels
 use Rattle.weaving.specs.declared.label_store.Store as coded
 use Rattle.weaving.specs.Labels.{Slot, free, held, Store, has_label, labelled, left}
 
@@ -35,6 +37,13 @@ pub record Changed (before after : coded.Store) (l : Label) (now_free : Bool) : 
 abbrev pub slot_free : Slot → Bool
 slot_free free = true
 slot_free (held p) = false
+
+abbrev pub number_held : Option labels.Label → ℕ
+number_held None = 0
+number_held (Some l) = suc l.0
+
+abbrev pub numbers_of : List (Option labels.Label) → List ℕ
+numbers_of ls = map number_held ls
 
 -- past the slots of s every label is free
 pub record Keeps (st : coded.Store) (hs : List ℕ) (s : Store) : Type 0 where

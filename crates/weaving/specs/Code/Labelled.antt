@@ -11,7 +11,7 @@ use Rattle.std.proofs.lemmas.List.Edits.{sets}
 use Rattle.terms.specs.Terms.{Place, Label, most_literals, most_labels}
 use Rattle.formula.specs.Formula.{Expr, literals}
 use Rattle.weaving.specs.declared.label_store.Store as coded
-use Rattle.weaving.specs.declared.label.Ends.{Ends}
+use Rattle.terms.specs.declared.Ends.{Ends}
 use Rattle.weaving.specs.Gates.{Gate, gates}
 use Rattle.weaving.specs.Labels.{Store, has_label, label_of, entered_on, labelled, left, GateRecord, Woven, weave}
 use Rattle.weaving.specs.Code.Kept.{Keeps}

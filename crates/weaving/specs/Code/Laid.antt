@@ -3,14 +3,17 @@
 --   LaidOut                    == so were the gates of whatever expression of n literals is held, as its marks arrange it
 --   Layable                    == some expression of n literals is held, with a row of marks beside it
 --   Laying                     == the lists on the way: the first gate that each slot was handed, and the gates' lists, where at the first
---                                 gate of a slot that waits stands where it leads as a whole
+--                                 gate of a slot that waits stands where it leads as a whole; laying_of has them of slots and gates
+--   SameLiterals, SamePlaces, SameLabels == what gates carry of their literals, their places, their labels are as before
 --   slot_laid .. i s           == the slot i taken: a literal is a gate, and an operator hands its operands their part
---   slots_laid .. m s          == the m slots from the front taken, the last first
---   Pending ks ss fs m         == the m slots from the front hold expressions behind one another, each with room for its gates
+--   Pending ks ss fs n m       == the m slots from the front hold expressions behind one another, each with room for its gates among n
 -- Assumes nothing.
-use Rattle.std.specs.Prelude.{ℕ, zero, suc, ◌+◌, ◌-◌, ◌*◌, ◌/◌, ◌≤◌, ◌<◌, ◌≡◌, Bool, cond, List, map, eqb, length, get_or, set}
+use Rattle.std.specs.Prelude.{ℕ, suc, ◌+◌, ◌-◌, ◌*◌, ◌/◌, ◌≤◌, ◌<◌, ◌≡◌, Bool, cond, List, map, eqb, length, get_or, set}
 use Rattle.std.proofs.lemmas.List.Edits.{sets}
 use Rattle.terms.specs.Terms.{Primitive, Place, most_literals}
+use Rattle.terms.specs.Laid.{primitives_of, senses_of, true_places_of, false_places_of, owns_of, on_trues_of, on_falses_of}
+use Rattle.terms.specs.declared.Place as places
+use Rattle.terms.specs.declared.LaidGate.{LaidGate}
 use Rattle.formula.specs.declared.Kind as coded
 use Rattle.formula.specs.declared.Kind.TheVariants.{Union, Intersection, Literal}
 use Rattle.formula.specs.Formula.{Expr, literals}
@@ -69,6 +72,12 @@ pub record Laying : Type 0 where
 abbrev pub laying : (gs ps qs ts fs : List ℕ) → Laying
 laying gs ps qs ts fs = record { firsts = gs; primitives = ps; senses = qs; trues = ts; falses = fs }
 
+abbrev pub places_of : List places.Place → List ℕ
+places_of ps = map (λ p. p.0) ps
+
+abbrev pub laying_of : List places.Place → List LaidGate → Laying
+laying_of firsts gates = laying (places_of firsts) (primitives_of gates) (senses_of gates) (true_places_of gates) (false_places_of gates)
+
 -- what the literal of the gate b carries; its places stand there already
 abbrev pub gate_put : Place → Primitive → Bool → Laying → Laying
 gate_put b p sense s = laying s.firsts (set s.primitives b p) (set s.senses b (sense_byte sense)) s.trues s.falses
@@ -115,9 +124,18 @@ slot_laid ks ss bs i s =
     laid_as (node_kind (get_or ks i 0)) (operands_at ss bs i) (get_or s.firsts i 0)
     (place_after (get_or s.firsts i 0) (get_or ss (operands_at ss bs i).first 0)) s
 
-unfoldable pub slots_laid : (ks ss bs : List ℕ) → ℕ → Laying → Laying
-slots_laid ks ss bs zero s = s
-slots_laid ks ss bs (suc i) s = slots_laid ks ss bs i (slot_laid ks ss bs i s)
+pub record SameLiterals (before after : List LaidGate) : Type 0 where
+  pub primitives : primitives_of after ≡ primitives_of before
+  pub senses : senses_of after ≡ senses_of before
+
+pub record SamePlaces (before after : List LaidGate) : Type 0 where
+  pub true_places : true_places_of after ≡ true_places_of before
+  pub false_places : false_places_of after ≡ false_places_of before
+
+pub record SameLabels (before after : List LaidGate) : Type 0 where
+  pub owns : owns_of after ≡ owns_of before
+  pub on_trues : on_trues_of after ≡ on_trues_of before
+  pub on_falses : on_falses_of after ≡ on_falses_of before
 
 pub record GateLaid (b : Place) (p : Primitive) (sense : Bool) (ps qs ps' qs' : List ℕ) : Type 0 where
   pub primitive : ps' ≡ set ps b p
@@ -133,12 +151,13 @@ pub record HandedDown (k : coded.Kind) (o : Operands) (ss : List ℕ) (b : Place
   pub each : (ps qs : List ℕ)
       → laying gs' ps qs ts' fs' ≡ handed_down k o b (place_after b (get_or ss o.first 0)) (laying gs ps qs ts fs)
 
-pub record Operating (o : Operands) (ss : List ℕ) (b : Place) : Type 0 where
+-- the slots of the operands are within, and the second one's first gate is one of n
+pub record Operating (o : Operands) (ss : List ℕ) (b : Place) (n : ℕ) : Type 0 where
   pub first_within : o.first < 2047
   pub second_within : o.second < 2047
-  pub fits : place_after b (get_or ss o.first 0) < most_literals
+  pub fits : place_after b (get_or ss o.first 0) < n
 
-pub data Pending (ks ss gs : List ℕ) : ℕ → Type 0 where
-  none : Pending ks ss gs 0
-  more : {m i rest : ℕ} {e : Expr} → m ≡ suc i → m ≡ nodes e + rest → Holds ks ss i e → i < length gs → get_or gs i 0 + literals e ≤ most_literals
-      → Pending ks ss gs rest → Pending ks ss gs m
+pub data Pending (ks ss gs : List ℕ) (n : ℕ) : ℕ → Type 0 where
+  none : Pending ks ss gs n 0
+  more : {m i rest : ℕ} {e : Expr} → m ≡ suc i → m ≡ nodes e + rest → Holds ks ss i e → i < length gs → get_or gs i 0 + literals e ≤ n
+      → Pending ks ss gs n rest → Pending ks ss gs n m

@@ -1,28 +1,33 @@
 -- `lay_slot` reads the node and does by its kind what `slot_laid` does; the slot's expression has room.
-use Rattle.std.proofs.Common.{refl}
-use Rattle.formula.specs.Formula.{union, intersection}
-use Rattle.weaving.proofs.CodeLay.{pending_gate, operating, operator_laid, literal_laid}
+use Rattle.std.proofs.Common.{◌∙◌, arith}
+use Rattle.std.proofs.lemmas.List.{length-map}
+use Rattle.formula.specs.declared.Slot.{Slot}
+use Rattle.weaving.proofs.CodeLay.{pending_slot, pending_gate, operating, operator_laid, literal_laid}
+use Rattle.weaving.proofs.Rows.{place_at}
 use Rattle.weaving.proofs.lay.lay_slot.Goals as goal
 
-pub lay_operator-requires : goal.lay_operator-requires
-lay_operator-requires c =
-    operating _ _ c.args.marks.now _ _ c.node_at-node.ensures _ c.in_order-operands.ensures union c.in-Union.is c.told-spans c.requires
-
-pub lay_operator-requires-in-Intersection : goal.lay_operator-requires-in-Intersection
-lay_operator-requires-in-Intersection c =
-    operating _ _ c.args.marks.now _ _ c.node_at-node.ensures _ c.in_order-operands.ensures intersection c.in-Intersection.is c.told-spans c.requires
-
 pub lay_gate-requires : goal.lay_gate-requires
-lay_gate-requires c = pending_gate c.requires
+lay_gate-requires c = rw (← place_at c.args.firsts.now c.args.i) (pending_gate c.requires.pending)
 
-pub returns-in-Union : goal.returns-in-Union
-returns-in-Union c =
-    operator_laid _ _ _ _ _ c.node_at-node.ensures _ c.in_order-operands.ensures union c.in-Union.is refl c.lay_operator.ensures
+pub bounds-marks-i : goal.bounds-marks-i
+bounds-marks-i c = omega (arith, (pending_slot c.requires.pending).0, length-map c.args.slots.now (λ (s : Slot). s.kind))
 
-pub returns-in-Intersection : goal.returns-in-Intersection
-returns-in-Intersection c =
-    operator_laid _ _ _ _ _ c.node_at-node.ensures _ c.in_order-operands.ensures intersection c.in-Intersection.is refl c.lay_operator-in-Intersection.ensures
+pub lay_operator-requires-clause-operating : goal.lay_operator-requires-clause-operating
+lay_operator-requires-clause-operating c =
+    operating _ _ c.args.marks.now _ c.node_at-node.ensures c.in_order-operands.ensures c.in_default.not-Literal
+    (place_at c.args.firsts.now c.args.i)
+    (length-map c.args.slots.now (λ (s : Slot). s.span) ∙ c.told-slots)
+    c.requires.pending
 
-pub returns-in-Literal : goal.returns-in-Literal
-returns-in-Literal c =
-    literal_laid _ _ _ _ _ c.node_at-node.ensures _ c.in_order-operands.ensures c.in-Literal.is c.lay_gate.ensures
+pub returns-in-Literal-clause-laid : goal.returns-in-Literal-clause-laid
+returns-in-Literal-clause-laid c =
+    literal_laid _ _ _ _ c.node_at-node.ensures (place_at c.args.firsts.now c.args.i) c.in-Literal.is c.lay_gate.ensures.laid
+    c.lay_gate.ensures.places_kept.true_places
+    c.lay_gate.ensures.places_kept.false_places
+
+pub returns-in_default-clause-laid : goal.returns-in_default-clause-laid
+returns-in_default-clause-laid c =
+    operator_laid _ _ _ _ c.node_at-node.ensures c.in_order-operands.ensures c.in_default.not-Literal (place_at c.args.firsts.now c.args.i)
+    c.lay_operator.ensures.handed
+    c.lay_operator.ensures.literals_kept.primitives
+    c.lay_operator.ensures.literals_kept.senses
