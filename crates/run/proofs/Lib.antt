@@ -1,4 +1,3 @@
-pub mod Answers
 pub mod Conform
 pub mod Rows
 pub mod Local

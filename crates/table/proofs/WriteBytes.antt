@@ -1,29 +1,41 @@
 -- Writing a table piece by piece stores its bytes in one run from the front: each piece starts where the one before it ends, and
 -- what is left to write is at every gate the records of the gates that are left. Assumes nothing.
-use Prim.Native.Nat.{ℕ, zero, suc, ◌+◌, ◌-◌, ◌*◌, ◌/◌, ◌%◌, ◌≤◌, ◌<◌}
+use Prim.Native.Nat.{ℕ, zero, suc, ◌+◌, ◌-◌, ◌*◌, ◌≤◌, ◌<◌}
 use mathlib.Core.Path.{◌≡◌, refl, sym, ap, ◌∙◌}
-use mathlib.Core.List.{List, [], ◌∷◌, ◌++◌}
+use mathlib.Core.List.{List, ◌++◌}
 use native.Mathlib.Omega.{arith}
 use native.Mathlib.Numerals.{add-one}
-use lib.ListN.{length, set, drop, length-append}
+use lib.ListN.{length, get_or, drop, length-append}
 use lib.Seq.{sets}
+use Rattle.std.proofs.lemmas.List.{get_or-map}
+use Rattle.terms.specs.Laid.{primitives_of, senses_of, owns_of, on_trues_of, on_falses_of}
+use Rattle.terms.specs.declared.LaidGate.{LaidGate}
 use Rattle.terms.proofs.Stores.{sets_append, sets_front}
-use Rattle.table.specs.Layout.{header_length, gate_length, end_length, record_start, table_length, header_for, kind_by_sense, two_bytes, header_bytes, gate_bytes, end_bytes}
+use Rattle.table.specs.Layout.{header_length, gate_length, record_start, table_length, header_for, header_bytes, gate_bytes, end_bytes}
 use Rattle.table.specs.Code.Written.{plain, record_at, gate_records, table_bytes}
 
-pub three_stored : (l : List ℕ) (at a b c : ℕ) → set (set (set l at a) (at + 1) b) (at + 2) c ≡ sets l at (a ∷ b ∷ c ∷ [])
-three_stored l at a b c =
-    let one : at + 1 ≡ suc at = omega arith in
-    let two : at + 2 ≡ suc (suc at) = omega arith in
-    rw (one, two)
+-- the record of gate k, taken from the gate itself
+gate_said : (gates : List LaidGate) (k : ℕ) (d : LaidGate) → k < length gates
+    → record_at (primitives_of gates) (senses_of gates) (owns_of gates) (on_trues_of gates) (on_falses_of gates) k
+    ≡ gate_bytes (plain (get_or gates k d).sense) (get_or gates k d).primitive.0 (get_or gates k d).own.0 (get_or gates k d).on_true.0
+    (get_or gates k d).on_false.0
+gate_said gates k d h =
+    rw (
+      get_or-map (λ (g : LaidGate). g.primitive.0) gates k d 0 h,
+      get_or-map (λ (g : LaidGate). g.sense) gates k d 0 h,
+      get_or-map (λ (g : LaidGate). g.own.0) gates k d 0 h,
+      get_or-map (λ (g : LaidGate). g.on_true.0) gates k d 0 h,
+      get_or-map (λ (g : LaidGate). g.on_false.0) gates k d 0 h,
+    )
+    refl
 
-pub gate_stored : (l l₁ l₂ : List ℕ) (at primitive sense own on_true on_false k lo hi p : ℕ) → k ≡ kind_by_sense (plain sense) → p ≡ primitive
-    → lo ≡ p % 256 → hi ≡ p / 256 % 256 → l₁ ≡ sets l at (k ∷ lo ∷ hi ∷ []) → l₂ ≡ sets l₁ (at + 3) (own ∷ on_true ∷ on_false ∷ [])
-    → l₂ ≡ sets l at (gate_bytes (plain sense) primitive own on_true on_false)
-gate_stored l l₁ l₂ at primitive sense own on_true on_false k lo hi p ek ep el eh e₁ e₂ =
-    e₂
-    ∙ rw (e₁, el, eh, ep, ek)
-    (sym (sets_append l at (kind_by_sense (plain sense) ∷ two_bytes primitive) (own ∷ on_true ∷ on_false ∷ [])))
+pub gate_stored : (gates : List LaidGate) (k : ℕ) (d : LaidGate) → k < length gates → (out out₁ : List ℕ) (at : ℕ)
+    → out₁
+    ≡ sets out at
+    (gate_bytes (plain (get_or gates k d).sense) (get_or gates k d).primitive.0 (get_or gates k d).own.0 (get_or gates k d).on_true.0
+    (get_or gates k d).on_false.0)
+    → out₁ ≡ sets out at (record_at (primitives_of gates) (senses_of gates) (owns_of gates) (on_trues_of gates) (on_falses_of gates) k)
+gate_stored gates k d h out out₁ at e = e ∙ ap (λ (bytes : List ℕ). sets out at bytes) (sym (gate_said gates k d h))
 
 module _ (out₀ : List ℕ) (n count : ℕ) (ps ss os ts fs : List ℕ) (t f : ℕ) where
   -- where the record of gate k starts
@@ -40,9 +52,6 @@ module _ (out₀ : List ℕ) (n count : ℕ) (ps ss os ts fs : List ℕ) (t f : 
     pub long : length out ≡ length out₀
     pub rest : sets out (start k) (left_to_write k) ≡ sets out₀ (header_length (header_for n count)) (left_to_write 0)
 
-  pub writing_none : Writing 0 out₀
-  writing_none = record { within = omega arith; long = refl; rest = refl }
-
   left_split : (k : ℕ) → k < n
       → left_to_write k ≡ record_at ps ss os ts fs k ++ left_to_write (k + 1)
   unfolding gate_records
@@ -51,9 +60,6 @@ module _ (out₀ : List ℕ) (n count : ℕ) (ps ss os ts fs : List ℕ) (t f : 
       rw (e, add-one k)
 
   module _ (k : ℕ) (out : List ℕ) (w : Writing k out) where
-    pub gate_fits : (at : ℕ) → at ≡ start k → table_length n ≤ length out₀ → k < n → at + gate_length (header_for n count) ≤ length out
-    gate_fits at e r h = omega (arith, w.long)
-
     pub writing_more : (out₁ : List ℕ) (at : ℕ) → at ≡ start k → k < n → length out₁ ≡ length out
         → out₁ ≡ sets out at (record_at ps ss os ts fs k) → Writing (k + 1) out₁
     writing_more out₁ at ea h long e =
@@ -65,9 +71,6 @@ module _ (out₀ : List ℕ) (n count : ℕ) (ps ss os ts fs : List ℕ) (t f : 
               (sym (sets_append out (start k) (record_at ps ss os ts fs k) (left_to_write (k + 1)))
               ∙ rw (← left_split k h) w.rest);
         }
-
-    pub end_fits : (at : ℕ) → at ≡ start n → table_length n ≤ length out₀ → at + end_length ≤ length out
-    end_fits at e r = omega (arith, w.long)
 
     records-length : (j m : ℕ) → length (gate_records ps ss os ts fs j m) ≡ gate_length (header_for n count) * m
     unfolding gate_records

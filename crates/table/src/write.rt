@@ -1,24 +1,13 @@
 // The one writer of a table: its header, a record for each gate, and its end.
-ghost use Rattle.std.specs.Prelude.{◌≡◌, [], ◌∷◌, ◌++◌, ◌+◌, ◌/◌, ◌%◌, ◌≤◌, ◌<◌, length, drop};
+ghost use Rattle.std.specs.Prelude.{◌≡◌, ◌++◌, ◌+◌, ◌≤◌, length, drop};
 ghost use Rattle.std.proofs.lemmas.List.Edits.{sets};
-ghost use Rattle.table.specs.Layout.{header_length, end_length, table_length, header_for, kind_by_sense, header_bytes, gate_bytes};
-ghost use Rattle.table.specs.Code.Written.{plain, table_bytes, Room};
+ghost use Rattle.terms.specs.Terms.{most_literals};
+ghost use Rattle.terms.specs.Laid.{primitives_of, senses_of, owns_of, on_trues_of, on_falses_of};
+ghost use Rattle.table.specs.Layout.{header_length, table_length, header_for, kind_by_sense, header_bytes, gate_bytes};
+ghost use Rattle.table.specs.Code.Written.{plain, table_bytes};
 
 use crate::{E, H, Header, N, P, end_start, record_start};
-use terms::{Label, Place, Primitive};
-
-// The two bytes of a number.
-fn low(x: usize) -> u8
-    ensures { result ≡ x % 256 }
-{
-    (x % 256) as u8
-}
-
-fn high(x: usize) -> u8
-    ensures { result ≡ x / 256 % 256 }
-{
-    (x / 256 % 256) as u8
-}
+use terms::{Ends, LaidGate, Place};
 
 // The kind of a plain gate, or of a complemented one, whose sense is 0.
 fn kind_byte(sense: u8) -> u8
@@ -27,90 +16,47 @@ fn kind_byte(sense: u8) -> u8
     if sense == 0 { N } else { P }
 }
 
-fn wide(primitive: Primitive) -> usize
-    ensures { result ≡ primitive.0 }
+// Stores bytes from a place on.
+fn put(out: &mut [u8], at: usize, bytes: &[u8])
+    requires { at + length bytes.now ≤ length out.old }
+    ensures { out.new ≡ sets out.old at bytes.now }
 {
-    primitive.0 as usize
+    out[at..at + bytes.len()].copy_from_slice(bytes);
 }
 
-// Three bytes from a place on.
-fn put(out: &mut [u8], at: usize, a: u8, b: u8, c: u8)
-    requires { at + end_length ≤ length out.old }
-    ensures { out.new ≡ sets out.old at (a ∷ b ∷ c ∷ []) }
+fn put_header(out: &mut [u8], header: Header)
+    requires { header_length (header_for header.gates header.labels) ≤ length out.old }
+    ensures { out.new ≡ sets out.old 0 (header_bytes header.gates header.labels) }
 {
-    out[at] = a;
-    out[at + 1] = b;
-    out[at + 2] = c;
+    let [low, high] = header.gates.to_le_bytes();
+    put(out, 0, &[H, low, high, header.labels]);
 }
 
-fn put_header(out: &mut [u8], n: usize, labels: u8)
-    requires { header_length (header_for n labels) ≤ length out.old }
-    ensures { out.new ≡ sets out.old 0 (header_bytes n labels) }
+fn put_gate(out: &mut [u8], at: usize, gate: &LaidGate)
+    requires { at + length (gate_bytes (plain gate.now.sense) gate.now.primitive.0 gate.now.own.0 gate.now.on_true.0 gate.now.on_false.0) ≤ length out.old }
+    ensures { out.new ≡ sets out.old at (gate_bytes (plain gate.now.sense) gate.now.primitive.0 gate.now.own.0 gate.now.on_true.0 gate.now.on_false.0) }
 {
-    put(out, 0, H, low(n), high(n));
-    out[3] = labels;
+    let kind = kind_byte(gate.sense);
+    let [low, high] = gate.primitive.0.to_le_bytes();
+    let record = [kind, low, high, gate.own.0, gate.on_true.0, gate.on_false.0];
+    put(out, at, &record);
 }
 
-fn put_gate(
-    out: &mut [u8],
-    at: usize,
-    primitive: Primitive,
-    sense: u8,
-    own: Label,
-    on_true: Label,
-    on_false: Label,
-)
-    requires { at + length (gate_bytes (plain sense) primitive.0 own.0 on_true.0 on_false.0) ≤ length out.old }
-    ensures { out.new ≡ sets out.old at (gate_bytes (plain sense) primitive.0 own.0 on_true.0 on_false.0) }
-{
-    let number = wide(primitive);
-    let kind = kind_byte(sense);
-    let first = low(number);
-    let second = high(number);
-    put(out, at, kind, first, second);
-    put(out, at + 3, own.0, on_true.0, on_false.0);
-}
-
-// Writes the table of n gates to the front of `out`, and nothing behind it. Sense 0 is a complemented gate's, any other a plain one's.
-pub fn write(
-    out: &mut [u8],
-    n: usize,
-    labels: u8,
-    primitives: &[u16],
-    senses: &[u8],
-    owns: &[u8],
-    on_trues: &[u8],
-    on_falses: &[u8],
-    on_true: Label,
-    on_false: Label,
-)
-    requires { Room out.old primitives.now senses.now owns.now on_trues.now on_falses.now n }
-    ensures { out.new ≡ table_bytes n labels primitives.now senses.now owns.now on_trues.now on_falses.now on_true.0 on_false.0 ++ drop (table_length n) out.old }
+// Writes the table of these gates to the front of `out`, and nothing behind it. Sense 0 is a complemented gate's, any other a plain one's.
+pub fn write(out: &mut [u8], labels: u8, gates: &[LaidGate], ends: Ends)
+    requires few { length gates.now ≤ most_literals }
+    requires out_long { table_length (length gates.now) ≤ length out.old }
+    ensures { out.new ≡ table_bytes (length gates.now) labels (primitives_of gates.now) (senses_of gates.now) (owns_of gates.now) (on_trues_of gates.now) (on_falses_of gates.now) ends.on_true.0 ends.on_false.0 ++ drop (table_length (length gates.now)) out.old }
 {
     let header = Header {
         kind: H,
-        gates: n as u16,
+        gates: gates.len() as u16,
         labels,
     };
-    put_header(out, n, labels);
-    let mut k: usize = 0;
-    while k < n {
-        let at = record_start(header, Place(k as u16));
-        let primitive = primitives[k];
-        let sense = senses[k];
-        let own = owns[k];
-        let t = on_trues[k];
-        let f = on_falses[k];
-        put_gate(
-            out,
-            at,
-            Primitive(primitive),
-            sense,
-            Label(own),
-            Label(t),
-            Label(f),
-        );
-        k += 1;
+    put_header(out, header);
+    for (k, gate) in gates.iter().enumerate() {
+        put_gate(out, record_start(header, Place(k as u16)), gate);
     }
-    put(out, end_start(header), E, on_true.0, on_false.0);
+    let end = [E, ends.on_true.0, ends.on_false.0];
+    put(out, end_start(header), &end);
 }

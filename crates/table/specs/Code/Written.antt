@@ -5,9 +5,9 @@
 --   gate_records == the records of so many gates from gate k on
 --   table_bytes  == the whole table
 -- Assumes nothing.
-use Rattle.std.specs.Prelude.{ℕ, zero, suc, ◌≤◌, Bool, not, List, [], ◌++◌, eqb, length, get_or}
-use Rattle.terms.specs.Terms.{Label, most_literals}
-use Rattle.table.specs.Layout.{table_length, header_bytes, gate_bytes, end_bytes}
+use Rattle.std.specs.Prelude.{ℕ, zero, suc, Bool, not, List, [], ◌++◌, eqb, get_or}
+use Rattle.terms.specs.Terms.{Label}
+use Rattle.table.specs.Layout.{header_bytes, gate_bytes, end_bytes}
 
 -- 0 stands for a complemented gate, any other byte for a plain one
 abbrev pub plain : ℕ → Bool
@@ -26,13 +26,3 @@ gate_records primitives senses owns on_trues on_falses k (suc m) =
 unfoldable pub table_bytes : ℕ → ℕ → List ℕ → List ℕ → List ℕ → List ℕ → List ℕ → Label → Label → List ℕ
 table_bytes n count primitives senses owns on_trues on_falses on_true on_false =
     header_bytes n count ++ (gate_records primitives senses owns on_trues on_falses 0 n ++ end_bytes on_true on_false)
-
--- n is a number of gates, the buffer has room for a table of so many, and the five lists have so many
-pub record Room (out primitives senses owns on_trues on_falses : List ℕ) (n : ℕ) : Type 0 where
-  pub few : n ≤ most_literals
-  pub out_long : table_length n ≤ length out
-  pub primitives_long : n ≤ length primitives
-  pub senses_long : n ≤ length senses
-  pub owns_long : n ≤ length owns
-  pub on_trues_long : n ≤ length on_trues
-  pub on_falses_long : n ≤ length on_falses
