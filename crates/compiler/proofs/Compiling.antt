@@ -1,7 +1,7 @@
 -- Reading, planning and finishing together answer what `compiled` says: the definitions are put together in the same order.
 -- Assumes nothing.
 use Prim.Native.Nat.{ℕ, ◌≤◌}
-use mathlib.Core.Path.{◌≡◌, refl, sym, subst}
+use mathlib.Core.Path.{◌≡◌, refl, sym}
 use mathlib.Core.List.{List}
 use native.Mathlib.Omega.{arith}
 use Rattle.terms.specs.declared.Refusal.{Refusal}
@@ -10,13 +10,12 @@ use Rattle.terms.specs.Answer.{Answer, result, refused, on_result}
 use Rattle.formula.specs.Formula.{Expr, literals}
 use Rattle.formula.specs.Typed.{Typed, positive}
 use Rattle.formula.proofs.Occurrences.{literals_positive}
-use Rattle.text.specs.declared.Reading.{Reading}
 use Rattle.grammar.specs.Twins.Reading.{typed_reading, reading}
-use Rattle.text.specs.Code.Answers.{HeldRight, ReadRight, held, refusal}
+use Rattle.text.specs.Code.Answers.{HeldRight, RefusedAs}
 use Rattle.grammar.proofs.Few.{derives_few}
 use Rattle.grammar.proofs.Refusals.{typed_reading_result, not_too_many}
 use Rattle.turning.specs.Turning.{marks}
-use Rattle.compiler.specs.declared.Compiled.{Compiled}
+use Rattle.std.specs.Prelude.{Result, Err}
 use Rattle.compiler.specs.Twins.Compiling.{compiled}
 use Rattle.compiler.specs.Shown.{CompiledRight}
 use Rattle.compiler.specs.Code.Finished.{HeldTree, Marking, Planned, FinishedBy}
@@ -34,36 +33,21 @@ few_literals : (text : List ℕ) (e : Expr) → reading text ≡ result e → li
 unfolding reading
 few_literals text e is = few_typed text e (typed_reading text) refl is
 
--- which case an answer of the reader is
-read_held : {text ks ss : List ℕ} {r : Reading} {n : ℕ} → r ≡ Reading.Held n → ReadRight text ks ss r → HeldRight text ks ss n
-read_held {text} {ks} {ss} {n = n} is (held {n = m} h) = let same : m ≡ n = cc in subst (HeldRight text ks ss) same h
-read_held is (refusal h) = let z : ◌≡◌ {A = ℕ} 0 1 = cc in absurd (omega arith)
-
-pub read_tree : {text ks ss : List ℕ} {r : Reading} {n : ℕ} → r ≡ Reading.Held n → ReadRight text ks ss r → HeldTree ks ss n
-read_tree {text} is right =
-    let h = read_held is right in
+pub read_tree : {text ks ss : List ℕ} {n : ℕ} → HeldRight text ks ss n → HeldTree ks ss n
+read_tree {text} h =
     record { tree = h.form; holds = h.holds; count = sym h.count; few = omega (arith, h.count, few_literals text h.form h.answer) }
 
-pub read_marking : {text ks ss bs : List ℕ} {r : Reading} {n : ℕ} → r ≡ Reading.Held n → ReadRight text ks ss r → Planned ks ss bs n
-    → Marking ks ss bs n
+pub read_marking : {text ks ss bs : List ℕ} {n : ℕ} → HeldRight text ks ss n → Planned ks ss bs n → Marking ks ss bs n
 unfolding read_tree
-read_marking is right planned =
-    let h = read_held is right in
-    record { held = read_tree is right; row = marks h.form; marked = planned.each h.form h.holds }
+read_marking h planned = record { held = read_tree h; row = marks h.form; marked = planned.each h.form h.holds }
 
-pub compiled_refused : {text ks ss before : List ℕ} {r : Reading} {f : Refusal} → r ≡ Reading.Refused f → ReadRight text ks ss r
-    → CompiledRight text before before (Compiled.Refused f)
+pub compiled_refused : {text before : List ℕ} {f : Refusal} → RefusedAs text f → CompiledRight text before before (Err f)
 unfolding compiled
-compiled_refused {f = f} is (held h) = let z : ◌≡◌ {A = ℕ} 0 1 = cc in absurd (omega arith)
-compiled_refused {f = f} is (refusal {r = g} h) =
-    let number : f.number ≡ g.number = cc in
-    let at : f.at ≡ g.at = cc in
-    record { answer = rw (h, number, at); buffer = rw h }
+compiled_refused h = record { answer = rw h; buffer = rw h }
 
-pub compiled_held : {text ks ss bs before after : List ℕ} {r : Reading} {n : ℕ} {a : Compiled} → r ≡ Reading.Held n → ReadRight text ks ss r
-    → Planned ks ss bs n → FinishedBy ks ss bs n before after a → CompiledRight text before after a
+pub compiled_held : {text ks ss bs before after : List ℕ} {n : ℕ} {a : Result ℕ Refusal} → HeldRight text ks ss n → Planned ks ss bs n
+    → FinishedBy ks ss bs n before after a → CompiledRight text before after a
 unfolding compiled
-compiled_held is right planned finished_by =
-    let h = read_held is right in
+compiled_held h planned finished_by =
     let told = finished_by.each h.form (marks h.form) h.holds (planned.each h.form h.holds) (sym h.count) in
     record { answer = rw h.answer told.answer; buffer = rw h.answer told.buffer }

@@ -2,10 +2,11 @@
 use Prim.Native.Nat.{ℕ, ◌≤◌, ◌<◌}
 use mathlib.Core.Path.{◌≡◌, sym, ap, ◌∙◌, subst}
 use mathlib.Core.Bool.{Bool, true, false}
-use mathlib.Core.List.{List, ◌++◌}
+use mathlib.Core.List.{List, ◌++◌, map}
+use native.Mathlib.Nat.{le_refl}
 use native.Mathlib.Omega.{arith}
 use lib.Dec.{ltb}
-use lib.ListN.{length, drop, length-append, length-drop}
+use lib.ListN.{length, drop, length-append, length-drop, length-map}
 use borrow.Author.Tests.{lt-ltb, le-ltb}
 use Rattle.terms.specs.Terms.{most_literals, most_labels}
 use Rattle.formula.specs.Formula.{Expr, literals}
@@ -17,12 +18,15 @@ use Rattle.turning.specs.Tags.{Tag, greatest}
 use Rattle.turning.specs.Code.Coded as turning
 use Rattle.weaving.specs.Gates.{gates}
 use Rattle.weaving.specs.Labels.{weave}
-use Rattle.weaving.specs.Code.Laid.{Laid, LaidOut, Layable}
+use Rattle.weaving.specs.Code.Laid.{SameLiterals, Laid, LaidOut, Layable}
 use Rattle.weaving.specs.Code.Labelled.{Labelable, Labelled, Labelling}
-use Rattle.weaving.specs.declared.label.Ends.{Ends}
+use Rattle.terms.specs.declared.Ends.{Ends}
+use Rattle.terms.specs.declared.LaidGate.{LaidGate}
+use Rattle.terms.specs.Laid.{primitives_of, senses_of, true_places_of, false_places_of, owns_of, on_trues_of, on_falses_of}
 use Rattle.table.specs.Layout.{table_length}
-use Rattle.table.specs.Code.Written.{table_bytes, Room}
-use Rattle.compiler.specs.declared.Compiled.{Compiled}
+use Rattle.table.specs.Code.Written.{table_bytes}
+use Rattle.std.specs.Prelude.{Ok, Err}
+use Rattle.terms.specs.declared.Reason.TheVariants.{TooManyLabels, TooLittleRoom}
 use Rattle.compiler.specs.Compiled.{table_of}
 use Rattle.compiler.specs.Twins.Compiling.{finished}
 use Rattle.compiler.specs.Code.Finished.{root_of, HeldTree, Marking, Planned, Weavable, WovenInto, FinishedBy}
@@ -62,7 +66,7 @@ layable m =
 
 -- the lists laid out are those of the arranged expression
 module _ {ks ss bs ps qs ts fs ps' qs' ts' fs' : List ℕ} {n : ℕ} (laid : LaidOut ks ss bs n ps qs ts fs ps' qs' ts' fs')
-    (few : n ≤ most_literals) (room_ts : 1024 ≤ length ts') (room_fs : 1024 ≤ length fs') where
+    (few : n ≤ most_literals) (room_ts : n ≤ length ts') (room_fs : n ≤ length fs') where
   module _ (e : Expr) (ms : List Bool) (holds : Holds ks ss (root_of n) e) (marked : Marked bs (root_of n) e ms) (count : literals e ≡ n) where
     laid_arranged : Laid ps qs ts fs ps' qs' ts' fs' (gates (arranged ms e))
     laid_arranged = laid.each e ms holds marked count
@@ -79,7 +83,7 @@ module _ {ks ss bs ps qs ts fs ps' qs' ts' fs' : List ℕ} {n : ℕ} (laid : Lai
         labels_asked r.marking.held.tree r.marking.row r.marking.held.holds r.marking.marked r.marking.held.count
         (omega (arith, r.needs, r.few_labels))
 
-    pub label_ready : {os us vs : List ℕ} → 1024 ≤ length os → 1024 ≤ length us → 1024 ≤ length vs → Labelling ts' fs' n os us vs
+    label_ready : {os us vs : List ℕ} → n ≤ length os → n ≤ length us → n ≤ length vs → Labelling ts' fs' n os us vs
     label_ready room_os room_us room_vs =
         record {
           tree = arranged r.marking.row r.marking.held.tree;
@@ -93,8 +97,8 @@ module _ {ks ss bs ps qs ts fs ps' qs' ts' fs' : List ℕ} {n : ℕ} (laid : Lai
         }
 
   -- what labelling and writing then give
-  module _ {os us vs os' us' vs' : List ℕ} {ends : Ends} (labelled : Labelled ts' fs' n os us vs os' us' vs' ends) (room_ps : 1024 ≤ length ps')
-      (room_qs : 1024 ≤ length qs') (room_os : 1024 ≤ length os') (room_us : 1024 ≤ length us') (room_vs : 1024 ≤ length vs') where
+  module _ {os us vs os' us' vs' : List ℕ} {ends : Ends} (labelled : Labelled ts' fs' n os us vs os' us' vs' ends) (room_ps : n ≤ length ps')
+      (room_qs : n ≤ length qs') (room_os : n ≤ length os') (room_us : n ≤ length us') (room_vs : n ≤ length vs') where
     woven_arranged : (e : Expr) (ms : List Bool) → Holds ks ss (root_of n) e → Marked bs (root_of n) e ms → literals e ≡ n → (labels : ℕ)
         → labels ≤ most_labels → (weave (arranged ms e)).label_count ≡ labels
         → table_bytes n labels ps' qs' os' us' vs' ends.on_true.0 ends.on_false.0 ≡ table_of (weave (arranged ms e))
@@ -103,7 +107,7 @@ module _ {ks ss bs ps qs ts fs ps' qs' ts' fs' : List ℕ} {n : ℕ} (laid : Lai
         os us vs os' us' vs' (omega arith) (omega arith) (omega arith) (omega arith) (omega arith) ends
         (labelled.each (arranged ms e) (labels_asked e ms holds marked count (omega arith))) labels needs
 
-    pub woven_into : {out out' : List ℕ} {labels : ℕ} → labels ≤ most_labels
+    woven_into : {out out' : List ℕ} {labels : ℕ} → labels ≤ most_labels
         → out' ≡ table_bytes n labels ps' qs' os' us' vs' ends.on_true.0 ends.on_false.0 ++ drop (table_length n) out
         → WovenInto ks ss bs n labels out out'
     woven_into {out} {labels = labels} low is_written =
@@ -113,18 +117,32 @@ module _ {ks ss bs ps qs ts fs ps' qs' ts' fs' : List ℕ} {n : ℕ} (laid : Lai
               ∙ ap (λ (l : List ℕ). l ++ drop (table_length n) out) (woven_arranged e ms holds marked count labels low needs);
         }
 
-pub write_room : {ks ss bs ps qs os us vs out : List ℕ} {n labels : ℕ} → Weavable ks ss bs n labels out → n ≤ most_literals → 1024 ≤ length ps
-    → 1024 ≤ length qs → 1024 ≤ length os → 1024 ≤ length us → 1024 ≤ length vs → Room out ps qs os us vs n
-write_room r few room_ps room_qs room_os room_us room_vs =
-    record {
-      few = few;
-      out_long = r.room;
-      primitives_long = omega arith;
-      senses_long = omega arith;
-      owns_long = omega arith;
-      on_trues_long = omega arith;
-      on_falses_long = omega arith;
-    }
+row_long : (xs : List LaidGate) {n : ℕ} (f : LaidGate → ℕ) → length xs ≡ n → n ≤ length (map f xs)
+row_long xs {n} f e = rw (length-map xs f, e) (le_refl n)
+
+-- and so of the gates that carry them
+module _ {ks ss bs ps qs ts fs out : List ℕ} {m n labels : ℕ} (gates : List LaidGate) (as_many : m ≡ n) (long : length gates ≡ n)
+    (laid : LaidOut ks ss bs m ps qs ts fs (primitives_of gates) (senses_of gates) (true_places_of gates) (false_places_of gates))
+    (r : Weavable ks ss bs n labels out) where
+  by_n : LaidOut ks ss bs n ps qs ts fs (primitives_of gates) (senses_of gates) (true_places_of gates) (false_places_of gates)
+  by_n = rw as_many at laid
+
+  pub gates_ready : Labelling (true_places_of gates) (false_places_of gates) (length gates) (owns_of gates) (on_trues_of gates) (on_falses_of gates)
+  gates_ready =
+      rw long
+      (label_ready by_n r.marking.held.few (row_long gates _ long) (row_long gates _ long) r (row_long gates _ long) (row_long gates _ long) (row_long gates _ long))
+
+  pub gates_woven : {gates' : List LaidGate} {out' : List ℕ} {ends : Ends} → length gates' ≡ n → SameLiterals gates gates'
+      → Labelled (true_places_of gates) (false_places_of gates) (length gates) (owns_of gates) (on_trues_of gates) (on_falses_of gates) (owns_of gates')
+      (on_trues_of gates') (on_falses_of gates') ends
+      → out' ≡ table_bytes (length gates') labels (primitives_of gates') (senses_of gates') (owns_of gates') (on_trues_of gates') (on_falses_of gates')
+      ends.on_true.0 ends.on_false.0
+      ++ drop (table_length (length gates')) out
+      → WovenInto ks ss bs n labels out out'
+  gates_woven {gates'} long' same labelled is_written =
+      woven_into by_n r.marking.held.few (row_long gates _ long) (row_long gates _ long) (rw long at labelled) (row_long gates _ long) (row_long gates _ long) (row_long gates' _ long')
+      (row_long gates' _ long') (row_long gates' _ long') r.few_labels
+      (rw (long', same.primitives, same.senses) at is_written)
 
 -- the buffer stays as long as it was
 pub same_long : {ks ss bs out out' : List ℕ} {n labels : ℕ} → Weavable ks ss bs n labels out → WovenInto ks ss bs n labels out out'
@@ -157,7 +175,7 @@ weave_room m needs low room =
 -- the three ways in which finishing ends
 module _ {ks ss bs before : List ℕ} {n labels : ℕ}
     (needs : (e : Expr) (ms : List Bool) → Holds ks ss (root_of n) e → Marked bs (root_of n) e ms → (weave (arranged ms e)).label_count ≡ labels) where
-  pub finished_7 : most_labels < labels → FinishedBy ks ss bs n before before (Compiled.Refused (record { number = 7; at = 0 }))
+  pub finished_7 : most_labels < labels → FinishedBy ks ss bs n before before (Err (record { reason = TooManyLabels; at = 0 }))
   unfolding finished
   finished_7 many =
       record {
@@ -167,7 +185,7 @@ module _ {ks ss bs before : List ℕ} {n labels : ℕ}
       }
 
   pub finished_8 : (at : ℕ) → at ≡ table_length n → labels ≤ most_labels → length before < at
-      → FinishedBy ks ss bs n before before (Compiled.Refused (record { number = 8; at = at }))
+      → FinishedBy ks ss bs n before before (Err (record { reason = TooLittleRoom; at = at }))
   unfolding finished
   finished_8 at is low little =
       record {
@@ -179,7 +197,7 @@ module _ {ks ss bs before : List ℕ} {n labels : ℕ}
       }
 
   pub finished_table : {after : List ℕ} (long : ℕ) → long ≡ table_length n → labels ≤ most_labels → long ≤ length before
-      → WovenInto ks ss bs n labels before after → FinishedBy ks ss bs n before after (Compiled.Table long)
+      → WovenInto ks ss bs n labels before after → FinishedBy ks ss bs n before after (Ok long)
   unfolding finished
   finished_table long is low room woven =
       record {

@@ -13,7 +13,7 @@ use Rattle.weaving.specs.Gates.{Gate, gates}
 use Rattle.weaving.specs.Labels.{GateRecord, weave}
 use Rattle.weaving.specs.Code.Laid.{sense_byte, Laid}
 use Rattle.weaving.specs.Code.Labelled.{Leads, none, more, Labelable, LabelledBy}
-use Rattle.weaving.specs.declared.label.Ends.{Ends}
+use Rattle.terms.specs.declared.Ends.{Ends}
 use Rattle.weaving.proofs.Places.{length-gates, gate_literal}
 use Rattle.weaving.proofs.Following.{weave_literals}
 use Rattle.weaving.proofs.Range.{length-gate_records}

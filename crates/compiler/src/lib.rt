@@ -1,21 +1,27 @@
 // Compile: read, plan, finish. The order of refusals 1 to 8, and nothing written on refusal.
-// The working slices are local; only the output buffer is lent.
+// The working slots are local; only the output buffer is lent.
 
 #![tactic(auto)]
 
 ghost use Rattle.std.specs.Prelude.{◌≡◌, ℕ, ◌+◌, ◌*◌, ◌≤◌, ◌<◌, length};
+ghost use Rattle.formula.specs.Code.Held.{kinds_of, spans_of};
 ghost use Rattle.compiler.specs.Shown.{CompiledRight};
 ghost use Rattle.compiler.specs.Code.Finished.{root_of, HeldTree, Marking, Planned, Weavable, WovenInto, FinishedBy};
 
-use terms::{MOST_LABELS, Refusal};
-use text::Reading;
+use formula::Slot;
+use terms::{Label, LaidGate, MOST_LABELS, Place, Primitive, Reason, Refusal};
 
-// The length of the table in the lent buffer, or a refusal with nothing written.
-#[derive(Clone, Copy)]
-pub enum Compiled {
-    Table(usize),
-    Refused(Refusal),
-}
+const NO_SLOT: Slot = Slot { kind: 0, span: 0 };
+
+const NO_GATE: LaidGate = LaidGate {
+    primitive: Primitive(0),
+    true_place: Place(0),
+    false_place: Place(0),
+    sense: 0,
+    own: Label(0),
+    on_true: Label(0),
+    on_false: Label(0),
+};
 
 // The slot of the root of an expression with n literals.
 fn root(n: usize) -> usize
@@ -26,137 +32,61 @@ fn root(n: usize) -> usize
 }
 
 // Turns the held expression: one mark an operator.
-pub fn plan(kinds: &[u16; 2047], spans: &[u16; 2047], marks: &mut [u8; 2047], n: usize)
-    requires { HeldTree kinds.now spans.now n }
-    ensures { Planned kinds.now spans.now marks.new n }
+pub fn plan(slots: &[Slot; 2047], marks: &mut [u8; 2047], n: usize)
+    requires { HeldTree (kinds_of slots.now) (spans_of slots.now) n }
+    ensures { Planned (kinds_of slots.now) (spans_of slots.now) marks.new n }
 {
-    turning::turn::turn(kinds, spans, marks, root(n));
+    turning::turn::turn(slots, marks, root(n));
 }
 
-// Lays out the gates, labels them and writes the table, with working room for what is laid out.
-fn weave_with(
-    kinds: &[u16; 2047],
-    spans: &[u16; 2047],
-    marks: &[u8; 2047],
-    n: usize,
-    labels: u8,
-    out: &mut [u8],
-    primitives: &mut [u16; 1024],
-    senses: &mut [u8; 1024],
-    trues: &mut [u16; 1024],
-    falses: &mut [u16; 1024],
-    owns: &mut [u8; 1024],
-    on_trues: &mut [u8; 1024],
-    on_falses: &mut [u8; 1024],
-)
-    requires { Weavable kinds.now spans.now marks.now n labels out.old }
-    ensures { WovenInto kinds.now spans.now marks.now n labels out.old out.new }
+// Lays out the gates, labels them and writes the table, with working room of its own.
+fn weave(slots: &[Slot; 2047], marks: &[u8; 2047], n: usize, labels: u8, out: &mut [u8])
+    requires { Weavable (kinds_of slots.now) (spans_of slots.now) marks.now n labels out.old }
+    ensures { WovenInto (kinds_of slots.now) (spans_of slots.now) marks.now n labels out.old out.new }
 {
-    weaving::lay::lay(kinds, spans, marks, n, primitives, senses, trues, falses);
-    let ends = weaving::label::label(n, trues, falses, owns, on_trues, on_falses);
-    table::write::write(
-        out,
-        n,
-        labels,
-        primitives,
-        senses,
-        owns,
-        on_trues,
-        on_falses,
-        ends.on_true,
-        ends.on_false,
-    );
-}
-
-// The same with working room of its own.
-fn weave(
-    kinds: &[u16; 2047],
-    spans: &[u16; 2047],
-    marks: &[u8; 2047],
-    n: usize,
-    labels: u8,
-    out: &mut [u8],
-)
-    requires { Weavable kinds.now spans.now marks.now n labels out.old }
-    ensures { WovenInto kinds.now spans.now marks.now n labels out.old out.new }
-{
-    let mut primitives = [0u16; 1024];
-    let mut senses = [0u8; 1024];
-    let mut trues = [0u16; 1024];
-    let mut falses = [0u16; 1024];
-    let mut owns = [0u8; 1024];
-    let mut on_trues = [0u8; 1024];
-    let mut on_falses = [0u8; 1024];
-    weave_with(
-        kinds,
-        spans,
-        marks,
-        n,
-        labels,
-        out,
-        &mut primitives,
-        &mut senses,
-        &mut trues,
-        &mut falses,
-        &mut owns,
-        &mut on_trues,
-        &mut on_falses,
-    );
+    let mut room = [NO_GATE; 1024];
+    let gates = &mut room[..n];
+    weaving::lay::lay(slots, marks, gates);
+    let ends = weaving::label::label(gates);
+    table::write::write(out, labels, gates, ends);
 }
 
 // Decides refusals 7 and 8 before a byte is written, and then writes the table of the marked expression.
 pub fn finish(
-    kinds: &[u16; 2047],
-    spans: &[u16; 2047],
+    slots: &[Slot; 2047],
     marks: &[u8; 2047],
     n: usize,
     out: &mut [u8],
-) -> Compiled
-    requires { Marking kinds.now spans.now marks.now n }
-    ensures { FinishedBy kinds.now spans.now marks.now n out.old out.new result }
+) -> Result<usize, Refusal>
+    requires { Marking (kinds_of slots.now) (spans_of slots.now) marks.now n }
+    ensures { FinishedBy (kinds_of slots.now) (spans_of slots.now) marks.now n out.old out.new result }
 {
-    let tag = turning::turn::price_by(kinds, spans, marks, root(n));
-    let costs = tag.costs;
-    let labels = turning::price::greatest(costs);
-    if labels > (MOST_LABELS as u16) {
-        return Compiled::Refused(Refusal { number: 7, at: 0 });
+    let tag = turning::turn::price_by(slots, marks, root(n));
+    let labels = turning::price::greatest(tag.costs);
+    if labels > u16::from(MOST_LABELS) {
+        return Err(Refusal {
+            reason: Reason::TooManyLabels,
+            at: 0,
+        });
     }
     let length = table::table_length(n as u16);
     if out.len() < length {
-        return Compiled::Refused(Refusal {
-            number: 8,
+        return Err(Refusal {
+            reason: Reason::TooLittleRoom,
             at: length,
         });
     }
-    weave(kinds, spans, marks, n, labels as u8, out);
-    Compiled::Table(length)
+    weave(slots, marks, n, labels as u8, out);
+    Ok(length)
 }
 
-// From a text to the table's bytes at the front of `out`, or the first refusal that holds, with working room for the expression.
-fn compile_with(
-    text: &[u8],
-    out: &mut [u8],
-    kinds: &mut [u16; 2047],
-    spans: &mut [u16; 2047],
-    marks: &mut [u8; 2047],
-) -> Compiled
+// From a text to the table's bytes at the front of `out`, and how many they are; or the first refusal that holds.
+pub fn compile(text: &[u8], out: &mut [u8]) -> Result<usize, Refusal>
     ensures { CompiledRight text.now out.old out.new result }
 {
-    match text::read(text, kinds, spans) {
-        Reading::Refused(refusal) => Compiled::Refused(refusal),
-        Reading::Held(n) => {
-            plan(kinds, spans, marks, n);
-            finish(kinds, spans, marks, n, out)
-        }
-    }
-}
-
-// The same with working room of its own: only `out` is lent.
-pub fn compile(text: &[u8], out: &mut [u8]) -> Compiled
-    ensures { CompiledRight text.now out.old out.new result }
-{
-    let mut kinds = [0u16; 2047];
-    let mut spans = [0u16; 2047];
+    let mut slots = [NO_SLOT; 2047];
     let mut marks = [0u8; 2047];
-    compile_with(text, out, &mut kinds, &mut spans, &mut marks)
+    let n = text::read(text, &mut slots)?;
+    plan(&slots, &mut marks, n);
+    finish(&slots, &marks, n, out)
 }

@@ -7,7 +7,7 @@
 --   WovenInto   == the buffer begins with its table, and is behind it as before
 --   FinishedBy  == the answer and the buffer are those of `finished`
 -- Assumes nothing.
-use Rattle.std.specs.Prelude.{ℕ, ◌-◌, ◌*◌, ◌≤◌, ◌≡◌, Bool, List, ◌++◌, length, drop}
+use Rattle.std.specs.Prelude.{ℕ, ◌-◌, ◌*◌, ◌≤◌, ◌≡◌, Bool, List, ◌++◌, length, drop, Result}
 use Rattle.terms.specs.Terms.{most_literals, most_labels}
 use Rattle.formula.specs.Formula.{Expr, literals}
 use Rattle.formula.specs.Marks.{arranged}
@@ -16,10 +16,11 @@ use Rattle.formula.specs.Code.Marked.{Marked}
 use Rattle.turning.specs.Turning.{marks}
 use Rattle.weaving.specs.Labels.{weave}
 use Rattle.table.specs.Layout.{table_length}
-use Rattle.compiler.specs.declared.Compiled.{Compiled}
+use Rattle.terms.specs.declared.Refusal.{Refusal}
 use Rattle.compiler.specs.Compiled.{table_of, written}
 use Rattle.compiler.specs.Twins.Compiling.{finished}
-use Rattle.compiler.specs.Shown.{shown_compiled, length_of}
+use Rattle.terms.specs.Refusals.{shown}
+use Rattle.compiler.specs.Shown.{length_of}
 
 abbrev pub root_of : ℕ → ℕ
 root_of n = 2 * n - 2
@@ -48,9 +49,9 @@ pub record WovenInto (ks ss bs : List ℕ) (n labels : ℕ) (before after : List
   pub each : (e : Expr) (ms : List Bool) → Holds ks ss (root_of n) e → Marked bs (root_of n) e ms → literals e ≡ n
       → (weave (arranged ms e)).label_count ≡ labels → after ≡ table_of (weave (arranged ms e)) ++ drop (table_length n) before
 
-pub record FinishedAs (e : Expr) (ms : List Bool) (before after : List ℕ) (r : Compiled) : Type 0 where
-  pub answer : shown_compiled r ≡ length_of (finished e ms (length before))
+pub record FinishedAs (e : Expr) (ms : List Bool) (before after : List ℕ) (r : Result ℕ Refusal) : Type 0 where
+  pub answer : shown (λ n. n) r ≡ length_of (finished e ms (length before))
   pub buffer : after ≡ written (finished e ms (length before)) before
 
-pub record FinishedBy (ks ss bs : List ℕ) (n : ℕ) (before after : List ℕ) (r : Compiled) : Type 0 where
+pub record FinishedBy (ks ss bs : List ℕ) (n : ℕ) (before after : List ℕ) (r : Result ℕ Refusal) : Type 0 where
   pub each : (e : Expr) (ms : List Bool) → Holds ks ss (root_of n) e → Marked bs (root_of n) e ms → literals e ≡ n → FinishedAs e ms before after r
