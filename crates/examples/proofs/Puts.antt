@@ -1,13 +1,13 @@
 -- Bytes put behind bytes are put as one, since what finds no room is left out either way. Assumes nothing.
-use Prim.Native.Nat.{ℕ, zero, suc, ◌+◌, ◌-◌, ◌%◌, ◌≤◌, ◌<◌}
+use Prim.Native.Nat.{ℕ, zero, suc, ◌+◌, ◌-◌, ◌%◌, ◌<◌}
 use mathlib.Core.Path.{◌≡◌, refl, sym, ap, ◌∙◌, subst}
 use mathlib.Core.List.{List, [], ◌∷◌, ◌++◌}
 use mathlib.Core.Bool.{false}
 use native.Mathlib.Omega.{arith}
 use native.Mathlib.Numerals.{add-one}
 use lib.Dec.{eqb}
-use lib.ListN.{length, get_or, set, take, length-take, length-append}
-use lib.Seq.{sets, take-nil, take-suc, take_all}
+use lib.ListN.{length, get_or, take, length-take, length-append}
+use lib.Seq.{sets, take-nil, take-suc}
 use Rattle.terms.specs.Texts.{bytes}
 use Rattle.terms.proofs.Stores.{sets_append}
 use Rattle.examples.specs.Code.Texts.{room, fitting, Put, repeated, sign, halved}
@@ -22,18 +22,10 @@ take-append (suc n) (x ∷ xs) ys =
     let same : n - length xs ≡ suc n - length (x ∷ xs) = omega arith in
     ap (λ (l : List ℕ). x ∷ l) (take-append n xs ys ∙ ap (λ (k : ℕ). take n xs ++ take k ys) same)
 
--- put-: nothing, a byte that finds room, and one that does not
+-- put_none: nothing
 
 pub put_none : (l : List ℕ) (at : ℕ) → Put l l at [] at
 put_none l at = let none = take-nil {A = ℕ} (room - at) in record { stored = rw none; ends = omega (arith, ap length none) }
-
-pub put_one : (l : List ℕ) (at x : ℕ) → at < room → Put l (set l at x) at (x ∷ []) (at + 1)
-put_one l at x h =
-    let whole = take_all (room - at) (x ∷ []) (omega arith) in
-    record { stored = rw whole; ends = rw whole }
-
-pub put_full : (l : List ℕ) (at x : ℕ) → at ≡ room → Put l l at (x ∷ []) at
-put_full l at x h = rw h (record { stored = refl; ends = refl })
 
 -- put_chain: bytes behind bytes
 
@@ -54,17 +46,14 @@ put_chain {a} {b} {c} {at} {e} {r} {xs} {ys} p q =
       ends = omega (arith, p.ends, q.ends, ap length both, length-append (fitting at xs) (fitting e ys));
     }
 
--- a word: its next byte, and the whole of it
+-- a word: its next byte
 
 pub put_next : {a b c : List ℕ} {at e r : ℕ} (w : List ℕ) (i : ℕ) → Put a b at (take i w) e → i < length w → Put b c e (get_or w i 0 ∷ []) r
     → Put a c at (take (i + 1) w) r
 put_next {a} {c = c} {at = at} {r = r} w i p h q =
     subst (λ (xs : List ℕ). Put a c at xs r) (sym (ap (λ (j : ℕ). take j w) (add-one i) ∙ take-suc w i 0 h)) (put_chain p q)
 
-pub put_all : {a b : List ℕ} {at e : ℕ} (w : List ℕ) (i : ℕ) → length w ≤ i → Put a b at (take i w) e → Put a b at w e
-put_all {a} {b} {at} {e} w i h p = subst (λ (xs : List ℕ). Put a b at xs e) (take_all i w h) p
-
--- a word so many times: not once, once more, and all of them
+-- a word so many times: not once, and once more
 
 pub put_no_times : (l : List ℕ) (at : ℕ) (w : List ℕ) → Put l l at (repeated 0 w) at
 unfolding repeated
@@ -74,11 +63,6 @@ pub put_again : {a b c : List ℕ} {at e r : ℕ} (n : ℕ) (w : List ℕ) → P
     → Put a c at (repeated (n + 1) w) r
 unfolding repeated
 put_again n w p q = rw (add-one n) (put_chain p q)
-
-pub put_times : {a b : List ℕ} {at e : ℕ} (times n : ℕ) (w : List ℕ) → n ≤ times → times ≤ n → Put a b at (repeated n w) e
-    → Put a b at (repeated times w) e
-put_times {a} {b} {at} {e} times n w h k p =
-    let same : n ≡ times = omega arith in subst (λ (m : ℕ). Put a b at (repeated m w) e) same p
 
 -- a number halved so many times: its operator, not at all, and in two halves
 

@@ -7,6 +7,7 @@ use native.Mathlib.Omega.{arith}
 use native.Mathlib.Decide.{dec_le}
 use borrow.Author.Tests.{lt-ltb, le-ltb}
 use lib.ListN.{length, length-append}
+use Rattle.listing.specs.declared.Page.{Page}
 use Rattle.listing.specs.Lines.{digit, digits, decimal}
 use Rattle.listing.specs.Code.Written.{Written}
 use Rattle.listing.proofs.Writing.{then}
@@ -48,8 +49,8 @@ decimal_short (suc k) n h =
     ]
 
 -- a number of one digit, written; and one of more, whose tenth part stands before its last digit
-pub one_digit : (n b : ℕ) {old new : List ℕ} {at r : ℕ} → n < 10 → b ≡ digit n → Written old new at (b ∷ []) r → Written old new at (decimal n) r
-one_digit n b h e w = rw (decimal_last n h, ← e) w
+pub one_digit : (n : ℕ) {p q : Page} → n < 10 → Written p q (digit (n % 10) ∷ []) → Written p q (decimal n)
+one_digit n h w = let e : n % 10 ≡ n = omega arith in rw (decimal_last n h) (rw e at w)
 
-pub more_digits : (n b : ℕ) {old mid new : List ℕ} {at j r : ℕ} → 10 ≤ n → b ≡ digit (n % 10) → Written old mid at (decimal (n / 10)) j → Written mid new j (b ∷ []) r → Written old new at (decimal n) r
-more_digits n b h e v w = rw (decimal_more n h, ← e) (then v w)
+pub more_digits : (n : ℕ) {p q s : Page} → 10 ≤ n → Written p q (decimal (n / 10)) → Written q s (digit (n % 10) ∷ []) → Written p s (decimal n)
+more_digits n h v w = rw (decimal_more n h) (then v w)

@@ -1,183 +1,153 @@
-// The listing: the lines of a table or of a refusal, written into a lent buffer. A writer takes the buffer and the place
-// to write at, and answers the place behind what it wrote.
+// The listing: the lines of a table or of a refusal, written into a lent buffer.
 
 #![tactic(auto)]
 
 ghost use Rattle.std.specs.Prelude.{◌≡◌, [], ◌∷◌, ◌+◌, ◌≤◌, ◌<◌, length};
 ghost use Rattle.terms.specs.Terms.{most_literals};
 ghost use Rattle.table.specs.Shown.{shown_gate};
-ghost use Rattle.listing.specs.Lines.{digit, decimal, spaced, counts_line, sign, three_labels, gate_line, pair_line, ends_line, lines, refusal_line};
+ghost use Rattle.listing.specs.Lines.{decimal, spaced, sign, three_labels, gate_line, pair_line, ends_line, lines, refusal_line};
 ghost use Rattle.listing.specs.Code.Written.{Written, WrittenWithin, Printed, Listable};
 
 use table::Gate;
-use terms::{Label, Place, Primitive, Refusal};
+use terms::{Label, Place, Primitive};
 
-const NEWLINE: u8 = 10;
-
-fn wide(x: u8) -> usize
-    ensures { result ≡ x }
-{
-    x as usize
-}
-
-fn wider(x: u16) -> usize
-    ensures { result ≡ x }
-{
-    x as usize
-}
-
-fn put_byte(out: &mut [u8; 32768], at: usize, byte: u8) -> usize
-    requires { at < 32768 }
-    ensures { Written out.old out.new at (byte ∷ []) result }
-{
-    out[at] = byte;
-    at + 1
-}
-
-fn put_word(out: &mut [u8], at: usize, word: &[u8]) -> usize
-    requires { at + length word.now ≤ length out.old }
-    ensures { Written out.old out.new at word.now result }
-{
-    let mut i = 0;
-    while i < word.len() {
-        out[at + i] = word[i];
-        i += 1;
-    }
-    at + i
-}
-
-// The byte of a digit.
-fn digit_byte(d: usize) -> u8
-    requires { d < 10 }
-    ensures { result ≡ digit d }
-{
-    48 + d as u8
-}
-
-// A number's decimal digits: those of its tenth part, and then its last one.
-#[tactic(auto, using(crate::proofs::Decimals::decimal_last, crate::proofs::Decimals::length_more, crate::proofs::Decimals::one_digit))]
-fn put_digits(out: &mut [u8; 32768], at: usize, n: usize) -> usize
-    requires { at + length (decimal n) ≤ 32768 }
-    ensures { Written out.old out.new at (decimal n) result }
-{
-    if n < 10 {
-        return put_byte(out, at, digit_byte(n));
-    }
-    let behind = put_digits(out, at, n / 10);
-    put_byte(out, behind, digit_byte(n % 10))
-}
-
-// A number, which has no more than 20 digits.
-fn put_number(out: &mut [u8; 32768], at: usize, n: usize) -> usize
-    requires { at + 20 ≤ 32768 }
-    ensures { WrittenWithin 20 out.old out.new at (decimal n) result }
-{
-    put_digits(out, at, n)
-}
-
-// A space, and a number.
-fn put_spaced(out: &mut [u8; 32768], at: usize, n: usize) -> usize
-    requires { at + 21 ≤ 32768 }
-    ensures { WrittenWithin 21 out.old out.new at (spaced n) result }
-{
-    let behind = put_byte(out, at, b' ');
-    put_number(out, behind, n)
-}
-
-// `+` for a plain gate, `-` for a complemented one.
-fn put_sign(out: &mut [u8; 32768], at: usize, kind: u8) -> usize
-    requires { at + 2 ≤ 32768 }
-    ensures { WrittenWithin 2 out.old out.new at (sign kind) result }
-{
-    if kind == table::P {
-        return put_word(out, at, b" +");
-    }
-    put_word(out, at, b" -")
-}
-
-fn put_label(out: &mut [u8; 32768], at: usize, label: Label) -> usize
-    requires { at + 21 ≤ 32768 }
-    ensures { WrittenWithin 4 out.old out.new at (spaced label.0) result }
-{
-    put_spaced(out, at, wide(label.0))
-}
-
-fn put_primitive(out: &mut [u8; 32768], at: usize, primitive: Primitive) -> usize
-    requires { at + 21 ≤ 32768 }
-    ensures { WrittenWithin 6 out.old out.new at (spaced primitive.0) result }
-{
-    put_spaced(out, at, wider(primitive.0))
-}
-
-fn put_labels(
-    out: &mut [u8; 32768],
+// A lent buffer, and where its next byte goes.
+#[derive(Drop)]
+struct Page<'a> {
+    out: &'a mut [u8; 32768],
     at: usize,
-    own: Label,
-    on_true: Label,
-    on_false: Label,
-) -> usize
-    requires { at + 29 ≤ 32768 }
-    ensures { WrittenWithin 12 out.old out.new at (three_labels own.0 on_true.0 on_false.0) result }
-{
-    let first = put_label(out, at, own);
-    let second = put_label(out, first, on_true);
-    put_label(out, second, on_false)
 }
 
-// The line of gate k.
-fn put_gate(out: &mut [u8; 32768], at: usize, k: Place, gate: Gate) -> usize
-    requires at_bound { at + 64 ≤ 32768 }
-    requires k_lt_most_literals { k.0 < most_literals }
-    ensures { WrittenWithin 25 out.old out.new at (gate_line k.0 (shown_gate gate)) result }
-{
-    let first = put_number(out, at, wider(k.0));
-    let second = put_primitive(out, first, gate.primitive);
-    let third = put_sign(out, second, gate.kind);
-    let last = put_labels(out, third, gate.own, gate.on_true, gate.on_false);
-    put_byte(out, last, NEWLINE)
-}
+impl<'a> Page<'a> {
+    // Nothing is written on it.
+    fn new(out: &'a mut [u8; 32768]) -> Page<'a>
+        ensures same_buffer { result.out.ghost_name ≡ out.entry.ghost_name }
+        ensures buffer { result.out.now ≡ out.old }
+        ensures start { result.at ≡ 0 }
+    {
+        Page { out, at: 0 }
+    }
 
-// A line of two words, each with a number behind it.
-fn put_pair(
-    out: &mut [u8; 32768],
-    at: usize,
-    first: &[u8],
-    m: usize,
-    second: &[u8],
-    n: usize,
-) -> usize
-    requires { at + (length first.now + (length second.now + 41)) ≤ 32768 }
-    ensures written_within { WrittenWithin (length first.now + (length second.now + 41)) out.old out.new at (pair_line first.now m second.now n) result }
-    ensures out_len { length out.old ≡ 32768 }
-{
-    let named = put_word(out, at, first);
-    let between = put_number(out, named, m);
-    let again = put_word(out, between, second);
-    let last = put_number(out, again, n);
-    put_byte(out, last, NEWLINE)
-}
+    fn byte(&mut self, byte: u8)
+        requires { self.old.at < 32768 }
+        ensures { Written self.old self.new (byte ∷ []) }
+    {
+        self.out[self.at] = byte;
+        self.at += 1;
+    }
 
-// The line of the counts, which is the first one.
-fn put_counts(out: &mut [u8; 32768], gates: u16, labels: u8) -> usize
-    ensures written_within { WrittenWithin 55 out.old out.new 0 (counts_line gates labels) result }
-    ensures out_len { length out.old ≡ 32768 }
-{
-    put_pair(out, 0, b"gates ", wider(gates), b" labels ", wide(labels))
-}
+    fn word(&mut self, word: &[u8])
+        requires { self.old.at + length word.now ≤ 32768 }
+        ensures { Written self.old self.new word.now }
+    {
+        for byte in word {
+            self.byte(*byte);
+        }
+    }
 
-// The line of the two end labels, which is the last one.
-fn put_ends(out: &mut [u8; 32768], at: usize, on_true: Label, on_false: Label) -> usize
-    requires { at + 53 ≤ 32768 }
-    ensures { WrittenWithin 53 out.old out.new at (ends_line on_true.0 on_false.0) result }
-{
-    put_pair(
-        out,
-        at,
-        b"true ",
-        wide(on_true.0),
-        b" false ",
-        wide(on_false.0),
-    )
+    // A number's decimal digits: those of its tenth part, and then its last one. By hand, since what std prints with says
+    // nothing of the bytes where it fails, and a listing cannot fail.
+    #[tactic(auto, using(crate::proofs::Decimals::decimal_last, crate::proofs::Decimals::length_more))]
+    fn digits(&mut self, n: usize)
+        requires { self.old.at + length (decimal n) ≤ 32768 }
+        ensures { Written self.old self.new (decimal n) }
+    {
+        if 10 <= n {
+            self.digits(n / 10);
+        }
+        self.byte(b'0' + (n % 10) as u8);
+    }
+
+    // A number, which has no more than 20 digits.
+    fn number(&mut self, n: usize)
+        requires { self.old.at + 20 ≤ 32768 }
+        ensures { WrittenWithin 20 self.old self.new (decimal n) }
+    {
+        self.digits(n);
+    }
+
+    // A space, and a number.
+    fn spaced(&mut self, n: usize)
+        requires { self.old.at + 21 ≤ 32768 }
+        ensures { WrittenWithin 21 self.old self.new (spaced n) }
+    {
+        self.byte(b' ');
+        self.number(n);
+    }
+
+    // `+` for a plain gate, `-` for a complemented one.
+    fn sign(&mut self, kind: u8)
+        requires { self.old.at + 2 ≤ 32768 }
+        ensures { WrittenWithin 2 self.old self.new (sign kind) }
+    {
+        if kind == table::P {
+            self.word(b" +");
+        } else {
+            self.word(b" -");
+        }
+    }
+
+    // A label has no more than three digits, and a primitive no more than five, so each has a function of its own.
+    fn label(&mut self, label: Label)
+        requires { self.old.at + 21 ≤ 32768 }
+        ensures { WrittenWithin 4 self.old self.new (spaced label.0) }
+    {
+        self.spaced(usize::from(label.0));
+    }
+
+    fn primitive(&mut self, primitive: Primitive)
+        requires { self.old.at + 21 ≤ 32768 }
+        ensures { WrittenWithin 6 self.old self.new (spaced primitive.0) }
+    {
+        self.spaced(usize::from(primitive.0));
+    }
+
+    fn labels(&mut self, own: Label, on_true: Label, on_false: Label)
+        requires { self.old.at + 29 ≤ 32768 }
+        ensures { WrittenWithin 12 self.old self.new (three_labels own.0 on_true.0 on_false.0) }
+    {
+        self.label(own);
+        self.label(on_true);
+        self.label(on_false);
+    }
+
+    // The line of gate k.
+    fn gate(&mut self, k: Place, gate: Gate)
+        requires at_bound { self.old.at + 64 ≤ 32768 }
+        requires k_lt_most_literals { k.0 < most_literals }
+        ensures { WrittenWithin 25 self.old self.new (gate_line k.0 (shown_gate gate)) }
+    {
+        self.number(usize::from(k));
+        self.primitive(gate.primitive);
+        self.sign(gate.kind);
+        self.labels(gate.own, gate.on_true, gate.on_false);
+        self.byte(b'\n');
+    }
+
+    // A line of two words, each with a number behind it.
+    fn pair(&mut self, first: &[u8], m: usize, second: &[u8], n: usize)
+        requires { self.old.at + (length first.now + (length second.now + 41)) ≤ 32768 }
+        ensures { WrittenWithin (length first.now + (length second.now + 41)) self.old self.new (pair_line first.now m second.now n) }
+    {
+        self.word(first);
+        self.number(m);
+        self.word(second);
+        self.number(n);
+        self.byte(b'\n');
+    }
+
+    // The line of the two end labels, which is the last one.
+    fn ends(&mut self, on_true: Label, on_false: Label)
+        requires { self.old.at + 53 ≤ 32768 }
+        ensures { WrittenWithin 53 self.old self.new (ends_line on_true.0 on_false.0) }
+    {
+        self.pair(
+            b"true ",
+            usize::from(on_true.0),
+            b" false ",
+            usize::from(on_false.0),
+        );
+    }
 }
 
 // Writes the lines of a table, and answers how many bytes they are.
@@ -187,26 +157,25 @@ pub fn print_table(table: &[u8], out: &mut [u8; 32768]) -> usize
 {
     let header = table::header_at(table);
     let end = table::end_at(table, header);
-    let gates = header.gates;
-    let mut at = put_counts(out, gates, header.labels);
-    let mut k = 0;
-    while k < gates {
-        at = put_gate(out, at, Place(k), table::gate_at(table, header, Place(k)));
-        k += 1;
+    let mut page = Page::new(out);
+    page.pair(
+        b"gates ",
+        usize::from(header.gates),
+        b" labels ",
+        usize::from(header.labels),
+    );
+    for k in 0..header.gates {
+        page.gate(Place(k), table::gate_at(table, header, Place(k)));
     }
-    put_ends(out, at, end.on_true, end.on_false)
+    page.ends(end.on_true, end.on_false);
+    page.at
 }
 
-// Writes the line of a refusal, and answers how many bytes it is.
-pub fn print_refusal(refusal: Refusal, out: &mut [u8; 32768]) -> usize
-    ensures { Printed out.old out.new (refusal_line refusal.number refusal.at) result }
+// Writes the line of a refusal, by its number and its place, and answers how many bytes it is.
+pub fn print_refusal(number: u8, at: usize, out: &mut [u8; 32768]) -> usize
+    ensures { Printed out.old out.new (refusal_line number at) result }
 {
-    put_pair(
-        out,
-        0,
-        b"refused ",
-        wide(refusal.number),
-        b" at ",
-        refusal.at,
-    )
+    let mut page = Page::new(out);
+    page.pair(b"refused ", usize::from(number), b" at ", at);
+    page.at
 }

@@ -1,0 +1,8 @@
+-- The space is written, and then the number behind it.
+use Rattle.terms.specs.Texts.{bytes}
+use Rattle.listing.proofs.Writing.{then_within, whole}
+use Rattle.listing.proofs.Page.spaced.Goals as goal
+
+pub returns : goal.returns
+unfolding bytes
+returns c = then_within (whole c.byte.ensures) c.number.ensures

@@ -1,7 +1,0 @@
--- A label is a byte, and a byte has no more than three digits.
-use Rattle.std.proofs.Common.{arith}
-use Rattle.listing.proofs.Parts.{spaced_short}
-use Rattle.listing.proofs.put_label.Goals as goal
-
-pub returns : goal.returns
-returns c = spaced_short 2 _ _ c.wide.ensures (omega arith) c.put_spaced.ensures

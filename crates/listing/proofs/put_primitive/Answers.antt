@@ -1,7 +1,0 @@
--- A number of two bytes has no more than five digits.
-use Rattle.std.proofs.Common.{arith}
-use Rattle.listing.proofs.Parts.{spaced_short}
-use Rattle.listing.proofs.put_primitive.Goals as goal
-
-pub returns : goal.returns
-returns c = spaced_short 4 _ _ c.wider.ensures (omega arith) c.put_spaced.ensures
