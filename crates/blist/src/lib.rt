@@ -1,16 +1,15 @@
-// The functions for a viewer in C or Rust, which crates/blist_c exports. Each takes the enum of an entry point apart and returns one plain struct:
-// a refusal's number, nought for none, with its place, and the values of the result; nought where a field has no meaning.
+// The functions for a viewer in C or Rust, which crates/blist_c exports. Each makes one plain struct of an entry point's answer: a
+// refusal's number, nought for none, with its place, and the values of the result; nought where a field has no meaning.
 
 #![tactic(auto)]
 
-ghost use Rattle.std.specs.Prelude.{◌≡◌, cond};
-ghost use Rattle.terms.specs.Answer as answer;
-ghost use Rattle.blist.specs.Plain.{plain_run, plain_truth, plain_counts, plain_record, plain_ends, version, CompileRight, StartRight, FeedRight, AnswerRight, HeaderRight, GateRight, EndsRight};
+ghost use Rattle.std.specs.Prelude.{◌≡◌};
+ghost use Rattle.terms.specs.Refusals.{shown};
+ghost use Rattle.blist.specs.Plain.{plain_table, plain_run, plain_truth, plain_counts, plain_record, plain_ends, ends_read, version, CompileRight, StartRight, FeedRight, AnswerRight, HeaderRight, GateRight, EndsRight};
 ghost use Rattle.table.specs.Shown.{shown_header, shown_gate, shown_end};
 ghost use Rattle.run.specs.Shown.{shown_run};
 
-use compiler::Compiled;
-use run::{Answered, EndRead, Fed, GateRead, HeaderRead, Run, Started};
+use run::Run;
 use table::{End, Gate, Header};
 use terms::{FIRST_LABEL, Label, Refusal};
 
@@ -74,172 +73,160 @@ pub struct PlainEnds {
     pub on_false: u8,
 }
 
-fn table_fields(refusal: u8, at: usize, length: usize) -> PlainTable
-    ensures { result ≡ record { refusal = refusal; at = at; length = length } }
-{
-    PlainTable {
-        refusal,
-        at,
-        length,
+impl From<Result<usize, Refusal>> for PlainTable {
+    ghost from_gives = { λ answer r. r ≡ plain_table (shown (λ n. n) answer) };
+
+    fn from(answer: Result<usize, Refusal>) -> PlainTable {
+        match answer {
+            Ok(length) => PlainTable {
+                refusal: 0,
+                at: 0,
+                length,
+            },
+            Err(refusal) => PlainTable {
+                refusal: u8::from(refusal.reason),
+                at: refusal.at,
+                length: 0,
+            },
+        }
     }
 }
 
-fn run_fields(refusal: u8, at: usize, gate: usize, label: u8) -> PlainRun
-    ensures { result ≡ record { refusal = refusal; at = at; gate = gate; label = label } }
+// A run that goes on, or a refusal with the gate number and the label to be shown beside it.
+fn plain_run(answer: Result<Run, Refusal>, gate: usize, label: u8) -> PlainRun
+    ensures { result ≡ plain_run gate label (shown shown_run answer) }
 {
-    PlainRun {
-        refusal,
-        at,
-        gate,
-        label,
+    match answer {
+        Ok(run) => PlainRun {
+            refusal: 0,
+            at: 0,
+            gate: run.gate,
+            label: run.label.0,
+        },
+        Err(refusal) => {
+            let number = u8::from(refusal.reason);
+            let at = refusal.at;
+            PlainRun {
+                refusal: number,
+                at,
+                gate,
+                label,
+            }
+        }
     }
 }
 
-// A run that goes on.
-fn going(run: Run) -> PlainRun
-    ensures { result ≡ plain_run 0 0 (answer.result (shown_run run)) }
-{
-    let label = run.label;
-    run_fields(0, 0, run.gate, label.0)
-}
+impl From<Result<bool, Refusal>> for PlainTruth {
+    ghost from_gives = { λ answer r. r ≡ plain_truth (shown (λ t. t) answer) };
 
-// A refusal, with the gate number and the label to be shown beside it.
-fn held_up(refusal: Refusal, gate: usize, label: u8) -> PlainRun
-    ensures { result ≡ plain_run gate label (answer.refused refusal.number refusal.at) }
-{
-    run_fields(refusal.number, refusal.at, gate, label)
-}
-
-// A truth as a byte.
-fn byte_of(truth: bool) -> u8
-    ensures { result ≡ cond truth 1 0 }
-{
-    if truth { 1 } else { 0 }
-}
-
-// A run that has ended on a truth.
-fn ended_on(truth: bool) -> PlainTruth
-    ensures { result ≡ plain_truth (answer.result truth) }
-{
-    PlainTruth {
-        refusal: 0,
-        at: 0,
-        truth: byte_of(truth),
-    }
-}
-
-// A refusal in the place of a truth.
-fn unanswered(refusal: Refusal) -> PlainTruth
-    ensures { result ≡ plain_truth (answer.refused refusal.number refusal.at) }
-{
-    PlainTruth {
-        refusal: refusal.number,
-        at: refusal.at,
-        truth: 0,
+    fn from(answer: Result<bool, Refusal>) -> PlainTruth {
+        match answer {
+            Ok(truth) => PlainTruth {
+                refusal: 0,
+                at: 0,
+                truth: u8::from(truth),
+            },
+            Err(refusal) => PlainTruth {
+                refusal: u8::from(refusal.reason),
+                at: refusal.at,
+                truth: 0,
+            },
+        }
     }
 }
 
 // What a header says, with the label that a run starts on.
-fn counted(header: Header) -> PlainCounts
-    ensures { result ≡ plain_counts (answer.result (shown_header header)) }
-{
-    PlainCounts {
-        refusal: 0,
-        at: 0,
-        gates: header.gates as usize,
-        labels: header.labels,
-        first_label: FIRST_LABEL,
+impl From<Result<Header, Refusal>> for PlainCounts {
+    ghost from_gives = { λ answer r. r ≡ plain_counts (shown shown_header answer) };
+
+    fn from(answer: Result<Header, Refusal>) -> PlainCounts {
+        match answer {
+            Ok(header) => PlainCounts {
+                refusal: 0,
+                at: 0,
+                gates: usize::from(header.gates),
+                labels: header.labels,
+                first_label: FIRST_LABEL,
+            },
+            Err(refusal) => PlainCounts {
+                refusal: u8::from(refusal.reason),
+                at: refusal.at,
+                gates: 0,
+                labels: 0,
+                first_label: 0,
+            },
+        }
     }
 }
 
-fn uncounted(refusal: Refusal) -> PlainCounts
-    ensures { result ≡ plain_counts (answer.refused refusal.number refusal.at) }
-{
-    PlainCounts {
-        refusal: refusal.number,
-        at: refusal.at,
-        gates: 0,
-        labels: 0,
-        first_label: 0,
+impl From<Result<Gate, Refusal>> for PlainRecord {
+    ghost from_gives = { λ answer r. r ≡ plain_record (shown shown_gate answer) };
+
+    fn from(answer: Result<Gate, Refusal>) -> PlainRecord {
+        match answer {
+            Ok(gate) => PlainRecord {
+                refusal: 0,
+                at: 0,
+                primitive: gate.primitive.0,
+                complemented: u8::from(gate.kind == table::N),
+                own: gate.own.0,
+                on_true: gate.on_true.0,
+                on_false: gate.on_false.0,
+            },
+            Err(refusal) => PlainRecord {
+                refusal: u8::from(refusal.reason),
+                at: refusal.at,
+                primitive: 0,
+                complemented: 0,
+                own: 0,
+                on_true: 0,
+                on_false: 0,
+            },
+        }
     }
 }
 
-// What a gate's record says.
-fn recorded(gate: Gate) -> PlainRecord
-    ensures { result ≡ plain_record (answer.result (shown_gate gate)) }
-{
-    let primitive = gate.primitive;
-    let own = gate.own;
-    let on_true = gate.on_true;
-    let on_false = gate.on_false;
-    PlainRecord {
-        refusal: 0,
-        at: 0,
-        primitive: primitive.0,
-        complemented: byte_of(gate.kind == table::N),
-        own: own.0,
-        on_true: on_true.0,
-        on_false: on_false.0,
+impl From<Result<End, Refusal>> for PlainEnds {
+    ghost from_gives = { λ answer r. r ≡ plain_ends (shown shown_end answer) };
+
+    fn from(answer: Result<End, Refusal>) -> PlainEnds {
+        match answer {
+            Ok(end) => PlainEnds {
+                refusal: 0,
+                at: 0,
+                on_true: end.on_true.0,
+                on_false: end.on_false.0,
+            },
+            Err(refusal) => PlainEnds {
+                refusal: u8::from(refusal.reason),
+                at: refusal.at,
+                on_true: 0,
+                on_false: 0,
+            },
+        }
     }
 }
 
-fn unrecorded(refusal: Refusal) -> PlainRecord
-    ensures { result ≡ plain_record (answer.refused refusal.number refusal.at) }
+// The last record of a table, asked for at its own gate number.
+fn ends_read(table: &[u8]) -> Result<End, Refusal>
+    ensures { shown shown_end result ≡ ends_read table.now }
 {
-    PlainRecord {
-        refusal: refusal.number,
-        at: refusal.at,
-        primitive: 0,
-        complemented: 0,
-        own: 0,
-        on_true: 0,
-        on_false: 0,
-    }
-}
-
-// What the last record says.
-fn ending(end: End) -> PlainEnds
-    ensures { result ≡ plain_ends (answer.result (shown_end end)) }
-{
-    let on_true = end.on_true;
-    let on_false = end.on_false;
-    PlainEnds {
-        refusal: 0,
-        at: 0,
-        on_true: on_true.0,
-        on_false: on_false.0,
-    }
-}
-
-fn unending(refusal: Refusal) -> PlainEnds
-    ensures { result ≡ plain_ends (answer.refused refusal.number refusal.at) }
-{
-    PlainEnds {
-        refusal: refusal.number,
-        at: refusal.at,
-        on_true: 0,
-        on_false: 0,
-    }
+    let header = run::header_read(table)?;
+    run::end_read(table, usize::from(header.gates))
 }
 
 // Compiles a text to a table at the start of the lent buffer; a refusal leaves the buffer as it was.
 pub fn blist_compile(text: &[u8], out: &mut [u8]) -> PlainTable
     ensures { CompileRight text.now out.old out.new result }
 {
-    match compiler::compile(text, out) {
-        Compiled::Table(length) => table_fields(0, 0, length),
-        Compiled::Refused(refusal) => table_fields(refusal.number, refusal.at, 0),
-    }
+    PlainTable::from(compiler::compile(text, out))
 }
 
 // Starts a run over a table that may have come from anywhere.
 pub fn blist_start(table: &[u8]) -> PlainRun
     ensures { StartRight table.now result }
 {
-    match run::start(table) {
-        Started::Run(run) => going(run),
-        Started::Refused(refusal) => held_up(refusal, 0, 0),
-    }
+    plain_run(run::start(table), 0, 0)
 }
 
 // Feeds a run the truth of its gate's primitive: nought is false, all else true. A refused feed shows the run handed in.
@@ -250,10 +237,8 @@ pub fn blist_feed(gate: usize, label: u8, table: &[u8], truth: u8) -> PlainRun
         gate,
         label: Label(label),
     };
-    match run::feed(held, table, truth != 0) {
-        Fed::Run(run) => going(run),
-        Fed::Refused(refusal, _) => held_up(refusal, gate, label),
-    }
+    let fed = run::feed(held, table, truth != 0);
+    plain_run(fed.map_err(|back| back.refusal), gate, label)
 }
 
 // Asks a run that has passed every gate for its truth.
@@ -264,44 +249,28 @@ pub fn blist_answer(gate: usize, label: u8, table: &[u8]) -> PlainTruth
         gate,
         label: Label(label),
     };
-    match run::answer(held, table) {
-        Answered::Truth(truth) => ended_on(truth),
-        Answered::Refused(refusal) => unanswered(refusal),
-    }
+    PlainTruth::from(run::answer(held, table))
 }
 
 // Reads what a table says of itself as a whole: its gates, its label count, and the label that a run starts on.
 pub fn blist_header(table: &[u8]) -> PlainCounts
     ensures { HeaderRight table.now result }
 {
-    match run::header_read(table) {
-        HeaderRead::Header(header) => counted(header),
-        HeaderRead::Refused(refusal) => uncounted(refusal),
-    }
+    PlainCounts::from(run::header_read(table))
 }
 
 // Reads the record of a gate.
 pub fn blist_gate(table: &[u8], gate: usize) -> PlainRecord
     ensures { GateRight table.now gate result }
 {
-    match run::gate_read(table, gate) {
-        GateRead::Record(record) => recorded(record),
-        GateRead::Refused(refusal) => unrecorded(refusal),
-    }
+    PlainRecord::from(run::gate_read(table, gate))
 }
 
 // Reads the labels of the two ends.
 pub fn blist_ends(table: &[u8]) -> PlainEnds
     ensures { EndsRight table.now result }
 {
-    let gates = match run::header_read(table) {
-        HeaderRead::Refused(refusal) => return unending(refusal),
-        HeaderRead::Header(header) => header.gates,
-    };
-    match run::end_read(table, gates as usize) {
-        EndRead::Record(end) => ending(end),
-        EndRead::Refused(refusal) => unending(refusal),
-    }
+    PlainEnds::from(ends_read(table))
 }
 
 // The version of this library, which the header's macros repeat.

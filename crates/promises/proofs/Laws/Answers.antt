@@ -7,19 +7,19 @@ use mathlib.Core.Bool.{Bool}
 use mathlib.Core.List.{List}
 use native.Mathlib.Omega.{arith}
 use lib.ListN.{length}
+use Rattle.std.specs.Prelude.{Result, Ok, Err}
+use Rattle.std.specs.Result.{result_map_both}
+use Rattle.terms.specs.Refusals.{number_of, shown}
+use Rattle.run.specs.declared.HandedBack as held_back
 use Rattle.terms.specs.declared.Refusal.{Refusal}
 use Rattle.terms.specs.Answer.{Answer, result, refused}
-use Rattle.compiler.specs.declared.Compiled.{Compiled}
 use Rattle.compiler.specs.Compiled.{written}
 use Rattle.compiler.specs.Twins.Compiling.{compiled}
-use Rattle.compiler.specs.Shown.{shown_compiled, length_of, CompiledRight}
+use Rattle.compiler.specs.Shown.{length_of, CompiledRight}
 use Rattle.compiler.proofs.Conform.{answers_alike}
 use Rattle.run.specs.declared.Run as held
-use Rattle.run.specs.declared.Started.{Started}
-use Rattle.run.specs.declared.Fed.{Fed}
-use Rattle.run.specs.declared.Answered.{Answered}
 use Rattle.run.specs.Twins.Answers.{started, fed, answered}
-use Rattle.run.specs.Shown.{shown_run, shown_started, shown_fed, shown_answered, HandedBack, StartedRight, FedRight, AnsweredRight}
+use Rattle.run.specs.Shown.{shown_run, HandedBack, StartedRight, FedRight, AnsweredRight}
 use Rattle.run.proofs.Conform.{started_alike, fed_alike, answered_alike}
 
 -- a length is counted of a table, and a refusal stays
@@ -31,22 +31,22 @@ pub length_given : (a : Answer (List ℕ)) {n : ℕ} → length_of a ≡ result 
 length_given (result bytes) is = (bytes, refl)
 length_given (refused q p) is = let never : ◌≡◌ {A = ℕ} 0 1 = cc in absurd (omega arith)
 
-module _ {text before after : List ℕ} {r : Compiled} (right : CompiledRight text before after r) where
+module _ {text before after : List ℕ} {r : Result ℕ Refusal} (right : CompiledRight text before after r) where
   abbrev answer : Answer (List ℕ)
   answer = compiled text (length before)
 
-  pub compile_refused : (f : Refusal) → (r ≡ Compiled.Refused f) ↔ (answer ≡ refused f.number f.at)
+  pub compile_refused : (f : Refusal) → (r ≡ Err f) ↔ (answer ≡ refused (number_of f.reason) f.at)
   compile_refused f = (
-    λ is. length_refused answer (sym right.answer ∙ ap shown_compiled is),
+    λ is. length_refused answer (sym right.answer ∙ ap (shown (λ n. n)) is),
     λ is. answers_alike {after' = before} right (record { answer = sym (ap length_of is); buffer = sym (ap (λ x. written x before) is) }),
   )
 
-  pub compile_unwritten : (f : Refusal) → r ≡ Compiled.Refused f → after ≡ before
+  pub compile_unwritten : (f : Refusal) → r ≡ Err f → after ≡ before
   compile_unwritten f is = right.buffer ∙ ap (λ x. written x before) ((compile_refused f).0 is)
 
-  pub compile_given : ((n : ℕ) × (r ≡ Compiled.Table n)) ↔ ((table : List ℕ) × (answer ≡ result table))
+  pub compile_given : ((n : ℕ) × (r ≡ Ok n)) ↔ ((table : List ℕ) × (answer ≡ result table))
   compile_given = (
-    λ some. length_given answer (sym right.answer ∙ ap shown_compiled some.1),
+    λ some. length_given answer (sym right.answer ∙ ap (shown (λ n. n)) some.1),
     λ some. (
       length some.0,
       answers_alike {after' = written answer before} right
@@ -54,44 +54,44 @@ module _ {text before after : List ℕ} {r : Compiled} (right : CompiledRight te
     ),
   )
 
-module _ {table : List ℕ} {r : Started} (right : StartedRight table r) where
-  pub start_refused : (f : Refusal) → (r ≡ Started.Refused f) ↔ (started table ≡ refused f.number f.at)
+module _ {table : List ℕ} {r : Result held.Run Refusal} (right : StartedRight table r) where
+  pub start_refused : (f : Refusal) → (r ≡ Err f) ↔ (started table ≡ refused (number_of f.reason) f.at)
   start_refused f = (
-    λ is. sym right.shown ∙ ap shown_started is,
-    λ is. started_alike table r (Started.Refused f) right (record { shown = sym is }),
+    λ is. sym right.shown ∙ ap (shown shown_run) is,
+    λ is. started_alike table r (Err f) right (record { shown = sym is }),
   )
 
-  pub start_given : (run : held.Run) → (r ≡ Started.Run run) ↔ (started table ≡ result (shown_run run))
+  pub start_given : (run : held.Run) → (r ≡ Ok run) ↔ (started table ≡ result (shown_run run))
   start_given run = (
-    λ is. sym right.shown ∙ ap shown_started is,
-    λ is. started_alike table r (Started.Run run) right (record { shown = sym is }),
+    λ is. sym right.shown ∙ ap (shown shown_run) is,
+    λ is. started_alike table r (Ok run) right (record { shown = sym is }),
   )
 
-module _ {run : held.Run} {table : List ℕ} {truth : Bool} {r : Fed} (right : FedRight run table truth r) where
-  pub feed_refused : (f : Refusal) → (r ≡ Fed.Refused f run) ↔ (fed (shown_run run) table truth ≡ refused f.number f.at)
+module _ {run : held.Run} {table : List ℕ} {truth : Bool} {r : Result held.Run held_back.HandedBack} (right : FedRight run table truth r) where
+  pub feed_refused : (f : Refusal) → (r ≡ Err (record { refusal = f; run = run })) ↔ (fed (shown_run run) table truth ≡ refused (number_of f.reason) f.at)
   feed_refused f = (
-    λ is. sym right.shown ∙ ap shown_fed is,
-    λ is. fed_alike run table truth r (Fed.Refused f run) right (record { shown = sym is; handed_back = refl }),
+    λ is. sym right.shown ∙ ap (λ x. shown shown_run (result_map_both (λ y. y) (λ h. h.refusal) x)) is,
+    λ is. fed_alike run table truth r (Err (record { refusal = f; run = run })) right (record { shown = sym is; handed_back = refl }),
   )
 
-  pub feed_handed_back : (f : Refusal) (back : held.Run) → r ≡ Fed.Refused f back → back ≡ run
+  pub feed_handed_back : (f : Refusal) (back : held.Run) → r ≡ Err (record { refusal = f; run = back }) → back ≡ run
   feed_handed_back f back is = subst (HandedBack run) is right.handed_back
 
-  pub feed_given : (next : held.Run) → (r ≡ Fed.Run next) ↔ (fed (shown_run run) table truth ≡ result (shown_run next))
+  pub feed_given : (next : held.Run) → (r ≡ Ok next) ↔ (fed (shown_run run) table truth ≡ result (shown_run next))
   feed_given next = (
-    λ is. sym right.shown ∙ ap shown_fed is,
-    λ is. fed_alike run table truth r (Fed.Run next) right (record { shown = sym is; handed_back = tt }),
+    λ is. sym right.shown ∙ ap (λ x. shown shown_run (result_map_both (λ y. y) (λ h. h.refusal) x)) is,
+    λ is. fed_alike run table truth r (Ok next) right (record { shown = sym is; handed_back = tt }),
   )
 
-module _ {run : held.Run} {table : List ℕ} {r : Answered} (right : AnsweredRight run table r) where
-  pub answer_refused : (f : Refusal) → (r ≡ Answered.Refused f) ↔ (answered (shown_run run) table ≡ refused f.number f.at)
+module _ {run : held.Run} {table : List ℕ} {r : Result Bool Refusal} (right : AnsweredRight run table r) where
+  pub answer_refused : (f : Refusal) → (r ≡ Err f) ↔ (answered (shown_run run) table ≡ refused (number_of f.reason) f.at)
   answer_refused f = (
-    λ is. sym right.shown ∙ ap shown_answered is,
-    λ is. answered_alike run table r (Answered.Refused f) right (record { shown = sym is }),
+    λ is. sym right.shown ∙ ap (shown (λ t. t)) is,
+    λ is. answered_alike run table r (Err f) right (record { shown = sym is }),
   )
 
-  pub answer_given : (truth : Bool) → (r ≡ Answered.Truth truth) ↔ (answered (shown_run run) table ≡ result truth)
+  pub answer_given : (truth : Bool) → (r ≡ Ok truth) ↔ (answered (shown_run run) table ≡ result truth)
   answer_given truth = (
-    λ is. sym right.shown ∙ ap shown_answered is,
-    λ is. answered_alike run table r (Answered.Truth truth) right (record { shown = sym is }),
+    λ is. sym right.shown ∙ ap (shown (λ t. t)) is,
+    λ is. answered_alike run table r (Ok truth) right (record { shown = sym is }),
   )

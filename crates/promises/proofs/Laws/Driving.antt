@@ -1,19 +1,26 @@
 -- A trace ends as the typed expression's value, since each of its steps is the one that the definitions give. Assumes nothing.
 use Prim.Native.Nat.{ℕ}
-use mathlib.Core.Path.{◌≡◌, refl, sym, ◌∙◌}
+use mathlib.Core.Path.{◌≡◌, refl, sym, ap, ◌∙◌}
 use mathlib.Core.Bool.{Bool, false}
 use mathlib.Core.List.{List, [], ◌∷◌}
 use native.Mathlib.Omega.{arith}
 use lib.ListN.{length}
+use Rattle.std.specs.Prelude.{Result, Ok, Err}
+use Rattle.terms.specs.declared.Refusal.{Refusal}
+use Rattle.terms.specs.declared.Reason.{Reason}
+use Rattle.terms.specs.declared.Reason.TheVariants.{NotWellFormed, NotAtEnd, PastGates, NeitherEnd}
+use Rattle.terms.specs.Refusals.{number_of, shown}
+use Rattle.terms.proofs.Rows.{EachNumber, first_number}
 use Rattle.terms.specs.Answer.{Answer, result, refused, on_result}
 use Rattle.formula.specs.Typed.{Typed, numbers, typed_value}
 use Rattle.formula.specs.Occurrences.{truth_at}
 use Rattle.run.specs.declared.Run as held
-use Rattle.run.specs.declared.Answered.{Answered}
 use Rattle.run.specs.Run.{Run}
 use Rattle.run.specs.Whole.{fed_all, whole_run}
 use Rattle.run.specs.Twins.Answers.{started, fed, answered}
-use Rattle.run.specs.Shown.{shown_run, shown_answered}
+use Rattle.run.specs.Rows.{start_rows, feed_rows, answer_rows}
+use Rattle.run.specs.Shown.{shown_run}
+use Rattle.run.proofs.Rows.{start_refused, feed_refused, answer_refused}
 use Rattle.promises.specs.Words.{Accepted, gate_of_each}
 use Rattle.promises.specs.Driving.{Onward, Trace, was_refused_onward, was_refused}
 use Rattle.promises.proofs.Laws.Accepted.{run_typed}
@@ -32,7 +39,7 @@ onward_next : (table : List ℕ) (us : List Bool) (u : Bool) (r : Run) {a : Answ
 unfolding fed_all
 onward_next table us u r {a} is = rw (sym is) (on_result_twice a (λ next. fed_all next table us) (λ last. answered last table))
 
-onward_shown : {table : List ℕ} {r : held.Run} {us : List Bool} {a : Answered} → Onward table r us a → shown_answered a ≡ onward (shown_run r) table us
+onward_shown : {table : List ℕ} {r : held.Run} {us : List Bool} {a : Result Bool Refusal} → Onward table r us a → shown (λ t. t) a ≡ onward (shown_run r) table us
 unfolding fed_all
 onward_shown (Onward.asked right) = right.shown
 onward_shown {table} {r} {us = u ∷ us} (Onward.fed right rest) = onward_shown rest ∙ onward_next table us u (shown_run r) right.shown
@@ -42,60 +49,87 @@ started_next : (table : List ℕ) (us : List Bool) {a : Answer Run} → a ≡ st
 unfolding whole_run
 started_next table us is = rw is
 
-pub trace_shown : {table : List ℕ} {us : List Bool} {a : Answered} → Trace table us a → shown_answered a ≡ whole_run table us
+pub trace_shown : {table : List ℕ} {us : List Bool} {a : Result Bool Refusal} → Trace table us a → shown (λ t. t) a ≡ whole_run table us
 trace_shown {table} {us} (Trace.started right rest) = onward_shown rest ∙ started_next table us right.shown
 trace_shown {table} {us} (Trace.start_refused right) = started_next table us right.shown
 
 -- an answer that shows a truth is that truth
-truth_shown : (a : Answered) (t : Bool) → shown_answered a ≡ result t → a ≡ Answered.Truth t
-truth_shown (Answered.Truth u) t e = cc
-truth_shown (Answered.Refused f) t e = let z : ◌≡◌ {A = ℕ} 0 1 = cc in absurd (omega arith)
+truth_shown : (a : Result Bool Refusal) (t : Bool) → shown (λ t. t) a ≡ result t → a ≡ Ok t
+truth_shown (Ok u) t e = cc
+truth_shown (Err f) t e = let z : ◌≡◌ {A = ℕ} 0 1 = cc in absurd (omega arith)
 
 -- a trace that ends on a truth has no refusal on its way
-unrefused_onward : {table : List ℕ} {r : held.Run} {us : List Bool} {t : Bool} (way : Onward table r us (Answered.Truth t)) → was_refused_onward way ≡ false
+unrefused_onward : {table : List ℕ} {r : held.Run} {us : List Bool} {t : Bool} (way : Onward table r us (Ok t)) → was_refused_onward way ≡ false
 unfolding was_refused_onward
 unrefused_onward (Onward.asked right) = refl
 unrefused_onward (Onward.fed right rest) = unrefused_onward rest
 
-unrefused : {table : List ℕ} {us : List Bool} {t : Bool} (way : Trace table us (Answered.Truth t)) → was_refused way ≡ false
+unrefused : {table : List ℕ} {us : List Bool} {t : Bool} (way : Trace table us (Ok t)) → was_refused way ≡ false
 unfolding was_refused
 unrefused (Trace.started right rest) = unrefused_onward rest
 
 module _ {text table : List ℕ} {room : ℕ} {e : Typed} (accepted : Accepted text room e table) (truths : List Bool) (one_each : length truths ≡ numbers e) where
   -- start, one feed a gate, answer: the typed expression's value
-  pub driven_truth : {a : Answered} → Trace table truths a → a ≡ Answered.Truth (typed_value (truth_at (gate_of_each e) truths) 0 e)
+  pub driven_truth : {a : Result Bool Refusal} → Trace table truths a → a ≡ Ok (typed_value (truth_at (gate_of_each e) truths) 0 e)
   driven_truth {a} way = truth_shown a _ (trace_shown way ∙ run_typed accepted truths one_each)
 
   -- and nothing on the way is refused
-  pub never_refused : {a : Answered} (way : Trace table truths a) → was_refused way ≡ false
+  pub never_refused : {a : Result Bool Refusal} (way : Trace table truths a) → was_refused way ≡ false
   never_refused {a} way = by a (driven_truth way) way
     where
-      by : (a : Answered) → a ≡ Answered.Truth (typed_value (truth_at (gate_of_each e) truths) 0 e) → (way : Trace table truths a) → was_refused way ≡ false
-      by (Answered.Truth t) is way = unrefused way
-      by (Answered.Refused f) is way = let z : ◌≡◌ {A = ℕ} 0 1 = cc in absurd (omega arith)
+      by : (a : Result Bool Refusal) → a ≡ Ok (typed_value (truth_at (gate_of_each e) truths) 0 e) → (way : Trace table truths a) → was_refused way ≡ false
+      by (Ok t) is way = unrefused way
+      by (Err f) is way = let z : ◌≡◌ {A = ℕ} 0 1 = cc in absurd (omega arith)
+
+-- each refusal of a run has a reason's number
+abbrev Reasoned : ℕ → Type 0
+Reasoned n = (x : Reason) × (number_of x ≡ n)
+
+start_reasoned : (table : List ℕ) {n at : ℕ} → started table ≡ refused n at → Reasoned n
+unfolding EachNumber
+start_reasoned table {n} {at} is =
+    first_number Reasoned (start_rows table) ((NotWellFormed, refl), tt) n at ((start_refused table n at).0 is)
+
+feed_reasoned : (r : Run) (table : List ℕ) (u : Bool) {n at : ℕ} → fed r table u ≡ refused n at → Reasoned n
+unfolding EachNumber
+feed_reasoned r table u {n} {at} is =
+    first_number Reasoned (feed_rows r table) ((NotWellFormed, refl), ((PastGates, refl), tt)) n at ((feed_refused r table u n at).0 is)
+
+answer_reasoned : (r : Run) (table : List ℕ) {n at : ℕ} → answered r table ≡ refused n at → Reasoned n
+unfolding EachNumber
+answer_reasoned r table {n} {at} is =
+    first_number Reasoned (answer_rows r table) ((NotWellFormed, refl), ((NotAtEnd, refl), ((NeitherEnd, refl), tt))) n at
+    ((answer_refused r table n at).0 is)
 
 -- There is such a trace for every table and every row of truths: the definitions' own answers are conforming.
-onward_exists : (table : List ℕ) (us : List Bool) (r : held.Run) → (a : Answered) × Onward table r us a
+onward_exists : (table : List ℕ) (us : List Bool) (r : held.Run) → (a : Result Bool Refusal) × Onward table r us a
 onward_exists table [] r = by (answered (shown_run r) table) refl
   where
-    by : (x : Answer Bool) → answered (shown_run r) table ≡ x → (a : Answered) × Onward table r [] a
-    by (result t) is = (Answered.Truth t, Onward.asked (record { shown = sym is }))
-    by (refused n at) is = (Answered.Refused (record { number = n; at = at }), Onward.asked (record { shown = sym is }))
+    by : (x : Answer Bool) → answered (shown_run r) table ≡ x → (a : Result Bool Refusal) × Onward table r [] a
+    by (result t) is = (Ok t, Onward.asked (record { shown = sym is }))
+    by (refused n at) is =
+        let (x, same) = answer_reasoned (shown_run r) table is in
+        (Err (record { reason = x; at = at }), Onward.asked (record { shown = ap (λ q. refused q at) same ∙ sym is }))
 onward_exists table (u ∷ us) r = by (fed (shown_run r) table u) refl (onward_exists table us)
   where
-    by : (x : Answer Run) → fed (shown_run r) table u ≡ x → ((next : held.Run) → (a : Answered) × Onward table next us a)
-        → (a : Answered) × Onward table r (u ∷ us) a
+    by : (x : Answer Run) → fed (shown_run r) table u ≡ x → ((next : held.Run) → (a : Result Bool Refusal) × Onward table next us a)
+        → (a : Result Bool Refusal) × Onward table r (u ∷ us) a
     by (result next) is later =
         let (a, rest) = later (record { gate = next.gate; label = record { 0 = next.label } }) in
         (a, Onward.fed (record { shown = sym is; handed_back = tt }) rest)
     by (refused n at) is later =
-        (Answered.Refused (record { number = n; at = at }), Onward.feed_refused {back = r} (record { shown = sym is; handed_back = refl }))
+        let (x, same) = feed_reasoned (shown_run r) table u is in (
+          Err (record { reason = x; at = at }),
+          Onward.feed_refused {back = r} (record { shown = ap (λ q. refused q at) same ∙ sym is; handed_back = refl }),
+        )
 
-pub some_trace : (table : List ℕ) (us : List Bool) → (a : Answered) × Trace table us a
+pub some_trace : (table : List ℕ) (us : List Bool) → (a : Result Bool Refusal) × Trace table us a
 some_trace table us = by (started table) refl
   where
-    by : (x : Answer Run) → started table ≡ x → (a : Answered) × Trace table us a
+    by : (x : Answer Run) → started table ≡ x → (a : Result Bool Refusal) × Trace table us a
     by (result r) is =
         let (a, rest) = onward_exists table us (record { gate = r.gate; label = record { 0 = r.label } }) in
         (a, Trace.started (record { shown = sym is }) rest)
-    by (refused n at) is = (Answered.Refused (record { number = n; at = at }), Trace.start_refused (record { shown = sym is }))
+    by (refused n at) is =
+        let (x, same) = start_reasoned table is in
+        (Err (record { reason = x; at = at }), Trace.start_refused (record { shown = ap (λ q. refused q at) same ∙ sym is }))

@@ -7,10 +7,10 @@ use mathlib.Core.List.{List, ◌++◌}
 use native.Mathlib.Omega.{arith}
 use lib.ListN.{length, take, drop}
 use lib.Seq.{take-append_seam}
+use Rattle.std.specs.Prelude.{Ok}
 use Rattle.terms.specs.Answer.{Answer, result, refused}
 use Rattle.terms.specs.Rows.{NoneOf}
 use Rattle.formula.specs.Typed.{Typed, numbers}
-use Rattle.compiler.specs.declared.Compiled.{Compiled}
 use Rattle.compiler.specs.Compiled.{written}
 use Rattle.compiler.specs.Twins.Compiling.{compiled}
 use Rattle.compiler.specs.Rows.{compile_rows}
@@ -51,7 +51,7 @@ fronted_by text before after n (result table) is answer buffer =
     record { answers = rw front is; long = rw front long; behind = rw (front, long) buffer }
 fronted_by text before after n (refused r p) is answer buffer = let z : ◌≡◌ {A = ℕ} 0 1 = cc in absurd (omega arith)
 
-module _ {text before after : List ℕ} {n : ℕ} (right : CompiledRight text before after (Compiled.Table n)) where
+module _ {text before after : List ℕ} {n : ℕ} (right : CompiledRight text before after (Ok n)) where
   fronted : Fronted text before after n
   fronted = fronted_by text before after n (compiled text (length before)) refl right.answer right.buffer
 
