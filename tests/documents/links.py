@@ -17,9 +17,14 @@ def named(document, text):
     yield from PATH.findall(text)
 
 
+def edit(path):
+    """The file of an edit that is named by crate and label, where the crate has the name of a folder."""
+    return re.sub(r'^(\w+)/(\w+)$', r'crates/\1/must-fail/\2.edit', path)
+
+
 def there(path):
     pattern = re.sub(r'\b[A-Z]{2,}\b(?!\.md)', '*', path)
-    return os.path.exists(path) or bool(glob.glob(pattern)) or '/target/' in path + '/'
+    return os.path.exists(path) or os.path.exists(edit(path)) or bool(glob.glob(pattern)) or '/target/' in path + '/'
 
 
 def main():
