@@ -15,7 +15,7 @@ use terms::{FIRST_LABEL, Label, Refusal};
 
 // What compiling returns.
 #[repr(C)]
-#[derive(Clone, Copy)]
+#[derive(Clone, Copy, Default)]
 pub struct PlainTable {
     pub refusal: u8,
     pub at: usize,
@@ -24,7 +24,7 @@ pub struct PlainTable {
 
 // What a start and a feed return.
 #[repr(C)]
-#[derive(Clone, Copy)]
+#[derive(Clone, Copy, Default)]
 pub struct PlainRun {
     pub refusal: u8,
     pub at: usize,
@@ -34,7 +34,7 @@ pub struct PlainRun {
 
 // What an answer returns.
 #[repr(C)]
-#[derive(Clone, Copy)]
+#[derive(Clone, Copy, Default)]
 pub struct PlainTruth {
     pub refusal: u8,
     pub at: usize,
@@ -43,7 +43,7 @@ pub struct PlainTruth {
 
 // What a header, a gate's record and the last record return.
 #[repr(C)]
-#[derive(Clone, Copy)]
+#[derive(Clone, Copy, Default)]
 pub struct PlainCounts {
     pub refusal: u8,
     pub at: usize,
@@ -53,7 +53,7 @@ pub struct PlainCounts {
 }
 
 #[repr(C)]
-#[derive(Clone, Copy)]
+#[derive(Clone, Copy, Default)]
 pub struct PlainRecord {
     pub refusal: u8,
     pub at: usize,
@@ -65,7 +65,7 @@ pub struct PlainRecord {
 }
 
 #[repr(C)]
-#[derive(Clone, Copy)]
+#[derive(Clone, Copy, Default)]
 pub struct PlainEnds {
     pub refusal: u8,
     pub at: usize,
@@ -79,14 +79,13 @@ impl From<Result<usize, Refusal>> for PlainTable {
     fn from(answer: Result<usize, Refusal>) -> PlainTable {
         match answer {
             Ok(length) => PlainTable {
-                refusal: 0,
-                at: 0,
                 length,
+                ..PlainTable::default()
             },
             Err(refusal) => PlainTable {
                 refusal: u8::from(refusal.reason),
                 at: refusal.at,
-                length: 0,
+                ..PlainTable::default()
             },
         }
     }
@@ -122,14 +121,13 @@ impl From<Result<bool, Refusal>> for PlainTruth {
     fn from(answer: Result<bool, Refusal>) -> PlainTruth {
         match answer {
             Ok(truth) => PlainTruth {
-                refusal: 0,
-                at: 0,
                 truth: u8::from(truth),
+                ..PlainTruth::default()
             },
             Err(refusal) => PlainTruth {
                 refusal: u8::from(refusal.reason),
                 at: refusal.at,
-                truth: 0,
+                ..PlainTruth::default()
             },
         }
     }
@@ -142,18 +140,15 @@ impl From<Result<Header, Refusal>> for PlainCounts {
     fn from(answer: Result<Header, Refusal>) -> PlainCounts {
         match answer {
             Ok(header) => PlainCounts {
-                refusal: 0,
-                at: 0,
                 gates: usize::from(header.gates),
                 labels: header.labels,
                 first_label: FIRST_LABEL,
+                ..PlainCounts::default()
             },
             Err(refusal) => PlainCounts {
                 refusal: u8::from(refusal.reason),
                 at: refusal.at,
-                gates: 0,
-                labels: 0,
-                first_label: 0,
+                ..PlainCounts::default()
             },
         }
     }
@@ -165,22 +160,17 @@ impl From<Result<Gate, Refusal>> for PlainRecord {
     fn from(answer: Result<Gate, Refusal>) -> PlainRecord {
         match answer {
             Ok(gate) => PlainRecord {
-                refusal: 0,
-                at: 0,
                 primitive: gate.primitive.0,
                 complemented: u8::from(gate.kind == table::N),
                 own: gate.own.0,
                 on_true: gate.on_true.0,
                 on_false: gate.on_false.0,
+                ..PlainRecord::default()
             },
             Err(refusal) => PlainRecord {
                 refusal: u8::from(refusal.reason),
                 at: refusal.at,
-                primitive: 0,
-                complemented: 0,
-                own: 0,
-                on_true: 0,
-                on_false: 0,
+                ..PlainRecord::default()
             },
         }
     }
@@ -192,16 +182,14 @@ impl From<Result<End, Refusal>> for PlainEnds {
     fn from(answer: Result<End, Refusal>) -> PlainEnds {
         match answer {
             Ok(end) => PlainEnds {
-                refusal: 0,
-                at: 0,
                 on_true: end.on_true.0,
                 on_false: end.on_false.0,
+                ..PlainEnds::default()
             },
             Err(refusal) => PlainEnds {
                 refusal: u8::from(refusal.reason),
                 at: refusal.at,
-                on_true: 0,
-                on_false: 0,
+                ..PlainEnds::default()
             },
         }
     }

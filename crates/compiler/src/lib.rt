@@ -9,19 +9,7 @@ ghost use Rattle.compiler.specs.Shown.{CompiledRight};
 ghost use Rattle.compiler.specs.Code.Finished.{root_of, HeldTree, Marking, Planned, Weavable, WovenInto, FinishedBy};
 
 use formula::Slot;
-use terms::{Label, LaidGate, MOST_LABELS, Place, Primitive, Reason, Refusal};
-
-const NO_SLOT: Slot = Slot { kind: 0, span: 0 };
-
-const NO_GATE: LaidGate = LaidGate {
-    primitive: Primitive(0),
-    true_place: Place(0),
-    false_place: Place(0),
-    sense: 0,
-    own: Label(0),
-    on_true: Label(0),
-    on_false: Label(0),
-};
+use terms::{LaidGate, MOST_LABELS, Reason, Refusal};
 
 // The slot of the root of an expression with n literals.
 fn root(n: usize) -> usize
@@ -44,7 +32,7 @@ fn weave(slots: &[Slot; 2047], marks: &[u8; 2047], n: usize, labels: u8, out: &m
     requires { Weavable (kinds_of slots.now) (spans_of slots.now) marks.now n labels out.old }
     ensures { WovenInto (kinds_of slots.now) (spans_of slots.now) marks.now n labels out.old out.new }
 {
-    let mut room = [NO_GATE; 1024];
+    let mut room = [LaidGate::default(); 1024];
     let gates = &mut room[..n];
     weaving::lay::lay(slots, marks, gates);
     let ends = weaving::label::label(gates);
@@ -84,7 +72,9 @@ pub fn finish(
 pub fn compile(text: &[u8], out: &mut [u8]) -> Result<usize, Refusal>
     ensures { CompiledRight text.now out.old out.new result }
 {
-    let mut slots = [NO_SLOT; 2047];
+    let mut slots = [Slot::default(); 2047];
+    // A mark is a byte beside the slots: in a slot it would take two, and as a truth it would ask more of those who hand marks to
+    // `finish`.
     let mut marks = [0u8; 2047];
     let n = text::read(text, &mut slots)?;
     plan(&slots, &mut marks, n);

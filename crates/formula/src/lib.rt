@@ -19,7 +19,7 @@ pub enum Kind {
 
 // A node in two numbers: its kind's, and that of the slots of its subtree. An enum in place of the kind's number would take the
 // stack of a compilation past what tests/30-library.sh allows it.
-#[derive(Clone, Copy)]
+#[derive(Clone, Copy, Default)]
 pub struct Slot {
     pub kind: u16,
     pub span: u16,
@@ -60,11 +60,7 @@ pub fn literal_number(primitive: Primitive, sense: bool) -> u16
     requires { primitive.0 ≤ greatest_primitive }
     ensures { result ≡ literal_number primitive.0 sense }
 {
-    if sense {
-        2 * primitive.0 + 3
-    } else {
-        2 * primitive.0 + 2
-    }
+    2 * primitive.0 + 2 + u16::from(sense)
 }
 
 pub fn join_number(intersection: bool) -> u16

@@ -34,14 +34,14 @@ impl From<u8> for Sign {
     #[tactic(auto, unfolding(crate::specs::Bytes::sign_of))]
     fn from(byte: u8) -> Sign {
         match byte {
-            48..=57 => Sign::Digit(byte - 48),
-            43 => Sign::Joins(Operator::Plus),
-            42 => Sign::Joins(Operator::Times),
-            45 => Sign::Joins(Operator::Minus),
-            33 => Sign::Bang,
-            40 => Sign::Open,
-            41 => Sign::Close,
-            32 | 10 => Sign::Blank,
+            b'0'..=b'9' => Sign::Digit(byte - b'0'),
+            b'+' => Sign::Joins(Operator::Plus),
+            b'*' => Sign::Joins(Operator::Times),
+            b'-' => Sign::Joins(Operator::Minus),
+            b'!' => Sign::Bang,
+            b'(' => Sign::Open,
+            b')' => Sign::Close,
+            b' ' | b'\n' => Sign::Blank,
             _ => Sign::Other,
         }
     }

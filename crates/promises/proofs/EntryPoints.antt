@@ -9,7 +9,7 @@ use mathlib.Core.List.{List, ◌++◌}
 use lib.ListN.{length, take, drop}
 use Rattle.std.specs.Prelude.{Result, Ok, Err}
 use Rattle.terms.specs.Refusals.{number_of}
-use Rattle.run.specs.declared.HandedBack.{HandedBack}
+use Rattle.run.specs.declared.FeedRefused.{FeedRefused}
 use Rattle.terms.specs.declared.Refusal.{Refusal}
 use Rattle.terms.specs.Terms.{first_label}
 use Rattle.terms.specs.Rows.{FirstOf, NoneOf}
@@ -62,7 +62,7 @@ module _ {table : List ℕ} {r : Result coded.Run Refusal} (right : StartedRight
   started_when_formed run = Iff.trans (answers.start_given right run) (rows.start_result table (shown_run run))
 
 -- FEED: it was handed the run, the table and a truth.
-module _ {run : coded.Run} {table : List ℕ} {truth : Bool} {r : Result coded.Run HandedBack} (right : FedRight run table truth r) where
+module _ {run : coded.Run} {table : List ℕ} {truth : Bool} {r : Result coded.Run FeedRefused} (right : FedRight run table truth r) where
   -- "A run tests 9 first, then 11 for a feed"
   pub feed_refused_exactly : (f : Refusal) → (r ≡ Err (record { refusal = f; run = run })) ↔ FirstOf (feed_rows (shown_run run) table) (number_of f.reason) f.at
   feed_refused_exactly f = Iff.trans (answers.feed_refused right f) (rows.feed_refused (shown_run run) table truth (number_of f.reason) f.at)
@@ -90,14 +90,14 @@ module _ {run : coded.Run} {table : List ℕ} {r : Result Bool Refusal} (right :
 module _ (t u : List ℕ) (as_long : length t ≡ length u) (header : Alike t u 0 (header_length (header_of t))) where
   -- feed alike at a gate whose record has the same bytes,
   pub feed_reads_its_parts : (run : coded.Run) (truth : Bool) → Alike t u (record_start (header_of t) run.gate) (gate_length (header_of t))
-      → (a b : Result coded.Run HandedBack) → FedRight run t truth a → FedRight run u truth b → a ≡ b
+      → (a b : Result coded.Run FeedRefused) → FedRight run t truth a → FedRight run u truth b → a ≡ b
   feed_reads_its_parts run truth record_alike =
       local.feed_local run truth t u
       (record { long = as_long; header = record { same = header }; gate = record { same = record_alike } })
 
   -- feed alike at gate n or more: "a feed with gate number n or more has no record to read, so its 9 covers header and length only",
   pub past_feed_reads_its_parts : (run : coded.Run) (truth : Bool) → (header_of t).gates ≤ run.gate
-      → (a b : Result coded.Run HandedBack) → FedRight run t truth a → FedRight run u truth b → a ≡ b
+      → (a b : Result coded.Run FeedRefused) → FedRight run t truth a → FedRight run u truth b → a ≡ b
   past_feed_reads_its_parts run truth = local.feed_past_local run truth t u (record { long = as_long; header = record { same = header } })
 
   -- and answer alike where the `E` record has the same bytes.
@@ -115,7 +115,7 @@ compile_alike x y = (answers_alike x y, buffers_alike x y)
 pub start_alike : (table : List ℕ) (a b : Result coded.Run Refusal) → StartedRight table a → StartedRight table b → a ≡ b
 start_alike = conform.started_alike
 
-pub feed_alike : (run : coded.Run) (table : List ℕ) (truth : Bool) (a b : Result coded.Run HandedBack) → FedRight run table truth a → FedRight run table truth b → a ≡ b
+pub feed_alike : (run : coded.Run) (table : List ℕ) (truth : Bool) (a b : Result coded.Run FeedRefused) → FedRight run table truth a → FedRight run table truth b → a ≡ b
 feed_alike = conform.fed_alike
 
 pub answer_alike : (run : coded.Run) (table : List ℕ) (a b : Result Bool Refusal) → AnsweredRight run table a → AnsweredRight run table b → a ≡ b

@@ -20,7 +20,7 @@ use Rattle.table.proofs.Whole.{nought_one}
 use Rattle.run.specs.Run.{Run}
 use Rattle.run.specs.Shown.{shown_run, HandedBack, HeaderReadRight, GateReadRight, EndReadRight, StartedRight, FedRight, AnsweredRight}
 use Rattle.run.specs.declared.Run as coded
-use Rattle.run.specs.declared.HandedBack as coded_back
+use Rattle.run.specs.declared.FeedRefused as coded_refused
 
 -- the struct of the code that a header and a run stand for
 abbrev coded_header : spec.Header → Header
@@ -29,7 +29,7 @@ coded_header h = record { kind = h.kind; gates = h.gates; labels = h.labels }
 abbrev held : Run → coded.Run
 held r = record { gate = r.gate; label = record { 0 = r.label } }
 
-fed_known : (run : coded.Run) (a b : Result coded.Run coded_back.HandedBack) → HandedBack run a → HandedBack run b → shown shown_run (result_map_both (λ y. y) (λ h. h.refusal) a) ≡ shown shown_run (result_map_both (λ y. y) (λ h. h.refusal) b) → a ≡ b
+fed_known : (run : coded.Run) (a b : Result coded.Run coded_refused.FeedRefused) → HandedBack run a → HandedBack run b → shown shown_run (result_map_both (λ y. y) (λ h. h.refusal) a) ≡ shown shown_run (result_map_both (λ y. y) (λ h. h.refusal) b) → a ≡ b
 fed_known run (Ok x) (Ok y) j k e = let same : shown_run x ≡ shown_run y = cc in ap (λ (r : Run). Ok (held r)) same
 fed_known run (Ok x) (Err h) j k e = nought_one (cc)
 fed_known run (Err g) (Ok y) j k e = nought_one (cc)
@@ -50,7 +50,7 @@ end_read_alike table k a b p q = shown_known shown_end (λ x y e. ap coded_end e
 pub started_alike : (table : List ℕ) (a b : Result coded.Run Refusal) → StartedRight table a → StartedRight table b → a ≡ b
 started_alike table a b p q = shown_known shown_run (λ x y e. ap held e) a b (p.shown ∙ sym q.shown)
 
-pub fed_alike : (run : coded.Run) (table : List ℕ) (truth : Bool) (a b : Result coded.Run coded_back.HandedBack)
+pub fed_alike : (run : coded.Run) (table : List ℕ) (truth : Bool) (a b : Result coded.Run coded_refused.FeedRefused)
     → FedRight run table truth a → FedRight run table truth b → a ≡ b
 fed_alike run table truth a b p q = fed_known run a b p.handed_back q.handed_back (p.shown ∙ sym q.shown)
 

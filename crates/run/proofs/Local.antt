@@ -22,7 +22,7 @@ use Rattle.run.specs.Run.{Run, stepped}
 use Rattle.run.specs.Twins.Answers.{fed, answered, ended}
 use Rattle.run.specs.Shown.{shown_run, FedRight, AnsweredRight}
 use Rattle.run.specs.declared.Run as coded
-use Rattle.run.specs.declared.HandedBack.{HandedBack}
+use Rattle.run.specs.declared.FeedRefused.{FeedRefused}
 use Rattle.run.proofs.Conform.{fed_alike, answered_alike}
 
 -- what is answered, as a function of what is read: a length, a header, a record
@@ -138,7 +138,7 @@ pub record SameToAsk (t u : List ℕ) : Type 0 where
   pub end : Agree t u (record_start (header_of t) (header_of t).gates) end_length
 
 pub feed_local : (run : coded.Run) (truth : Bool) (t u : List ℕ) → SameToFeed t u run.gate
-    → (a b : Result coded.Run HandedBack) → FedRight run t truth a → FedRight run u truth b → a ≡ b
+    → (a b : Result coded.Run FeedRefused) → FedRight run t truth a → FedRight run u truth b → a ≡ b
 feed_local run truth t u s a b p q =
     let f : SameFrame t u = record { long = s.long; header = header_agrees t u s.header } in
     let g : gate_of t run.gate ≡ gate_of u run.gate =
@@ -147,7 +147,7 @@ feed_local run truth t u s a b p q =
     fed_alike run t truth a b p (record { shown = q.shown ∙ sym (same_feed (shown_run run) truth t u f g); handed_back = q.handed_back })
 
 pub feed_past_local : (run : coded.Run) (truth : Bool) (t u : List ℕ) → SameToPast t u → (header_of t).gates ≤ run.gate
-    → (a b : Result coded.Run HandedBack) → FedRight run t truth a → FedRight run u truth b → a ≡ b
+    → (a b : Result coded.Run FeedRefused) → FedRight run t truth a → FedRight run u truth b → a ≡ b
 feed_past_local run truth t u s h a b p q =
     let f : SameFrame t u = record { long = s.long; header = header_agrees t u s.header } in
     fed_alike run t truth a b p (record { shown = q.shown ∙ sym (same_past (shown_run run) truth t u f h); handed_back = q.handed_back })

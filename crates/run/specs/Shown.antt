@@ -13,14 +13,14 @@ use Rattle.table.specs.declared.End.{End}
 use Rattle.run.specs.Run.{Run}
 use Rattle.run.specs.Twins.Answers.{header_read, gate_read, end_read, started, fed, answered}
 use Rattle.run.specs.declared.Run as coded
-use Rattle.run.specs.declared.HandedBack as coded_back
+use Rattle.run.specs.declared.FeedRefused as coded_refused
 
 -- the code's run, with its label taken out
 abbrev pub shown_run : coded.Run → Run
 shown_run r = record { gate = r.gate; label = r.label.0 }
 
 -- a refused feed carries the run that was handed in
-abbrev pub HandedBack : coded.Run → Result coded.Run coded_back.HandedBack → Type 0
+abbrev pub HandedBack : coded.Run → Result coded.Run coded_refused.FeedRefused → Type 0
 HandedBack run r = IfErr r (λ h. h.run ≡ run)
 
 pub record HeaderReadRight (table : List ℕ) (r : Result coded_header.Header Refusal) : Type 0 where
@@ -35,7 +35,7 @@ pub record EndReadRight (table : List ℕ) (k : ℕ) (r : Result End Refusal) : 
 pub record StartedRight (table : List ℕ) (r : Result coded.Run Refusal) : Type 0 where
   pub shown : shown shown_run r ≡ started table
 
-pub record FedRight (run : coded.Run) (table : List ℕ) (truth : Bool) (r : Result coded.Run coded_back.HandedBack) : Type 0 where
+pub record FedRight (run : coded.Run) (table : List ℕ) (truth : Bool) (r : Result coded.Run coded_refused.FeedRefused) : Type 0 where
   pub shown : shown shown_run (result_map_both (λ next. next) (λ h. h.refusal) r) ≡ fed (shown_run run) table truth
   pub handed_back : HandedBack run r
 

@@ -21,7 +21,7 @@ pub struct Run {
 
 // Why a feed is refused, with the run that was handed in.
 #[derive(Clone, Copy)]
-pub struct HandedBack {
+pub struct FeedRefused {
     pub refusal: Refusal,
     pub run: Run,
 }
@@ -96,10 +96,10 @@ fn moved(record: Gate, truth: bool, label: Label) -> Label
 
 // Reads the record of the run's gate, and takes the run past that gate.
 #[tactic(auto, unfolding(crate::specs::Twins::Answers::fed))]
-pub fn feed(run: Run, table: &[u8], truth: bool) -> Result<Run, HandedBack>
+pub fn feed(run: Run, table: &[u8], truth: bool) -> Result<Run, FeedRefused>
     ensures { FedRight run table.now truth result }
 {
-    let record = gate_read(table, run.gate).map_err(|refusal| HandedBack { refusal, run })?;
+    let record = gate_read(table, run.gate).map_err(|refusal| FeedRefused { refusal, run })?;
     Ok(Run {
         gate: run.gate + 1,
         label: moved(record, truth, run.label),

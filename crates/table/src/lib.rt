@@ -18,13 +18,13 @@ use terms::{
 };
 
 // The kinds: a header, a plain gate, a complemented gate, an end.
-pub const H: u8 = 72;
+pub const H: u8 = b'H';
 
-pub const P: u8 = 80;
+pub const P: u8 = b'P';
 
-pub const N: u8 = 78;
+pub const N: u8 = b'N';
 
-pub const E: u8 = 69;
+pub const E: u8 = b'E';
 
 const HEADER_LENGTH: usize = 4;
 

@@ -7,11 +7,11 @@ ghost use Rattle.std.specs.Prelude.{◌≡◌};
 ghost use Rattle.terms.specs.Refusals.{number_of};
 
 // The number of a primitive.
-#[derive(Clone, Copy)]
+#[derive(Clone, Copy, Default)]
 pub struct Primitive(pub u16);
 
 // A place that a gate leads to: another gate's number, or one of the two ends beyond the last gate.
-#[derive(Clone, Copy)]
+#[derive(Clone, Copy, Default)]
 pub struct Place(pub u16);
 
 impl From<Place> for usize {
@@ -23,7 +23,7 @@ impl From<Place> for usize {
 }
 
 // A label that a place holds.
-#[derive(Clone, Copy, PartialEq, Eq)]
+#[derive(Clone, Copy, Default, PartialEq, Eq)]
 pub struct Label(pub u8);
 
 // Why a text, a buffer, a table or a step is refused.
@@ -73,8 +73,8 @@ pub struct Refusal {
 }
 
 // A gate on its way into a table: what its literal carries, the places that it leads to, and the labels that it is entered and
-// left on. Sense 0 is a complemented gate's, any other a plain one's.
-#[derive(Clone, Copy)]
+// left on. Sense 0 is a complemented gate's, any other a plain one's; it is a byte, since `write` takes any.
+#[derive(Clone, Copy, Default)]
 pub struct LaidGate {
     pub primitive: Primitive,
     pub true_place: Place,

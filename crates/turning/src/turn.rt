@@ -8,7 +8,7 @@ ghost use Rattle.turning.specs.Code.Coded.{meant, joining, intersecting, Small, 
 
 use crate::price;
 use crate::price::Tag;
-use formula::{Kind, Slot};
+use formula::{Kind, Node, Slot};
 
 // The tag that is kept, and whether it is that of the exchanged order.
 #[derive(Clone, Copy)]
@@ -35,14 +35,15 @@ pub fn settle(intersection: bool, l: Tag, r: Tag) -> Settled
     let typed = price::price(intersection, l, r);
     let turned = price::price(intersection, r, l);
     if price::row_less(price::row(turned.costs), price::row(typed.costs)) {
-        return Settled {
+        Settled {
             tag: turned,
             exchanged: true,
-        };
-    }
-    Settled {
-        tag: typed,
-        exchanged: false,
+        }
+    } else {
+        Settled {
+            tag: typed,
+            exchanged: false,
+        }
     }
 }
 
@@ -60,13 +61,10 @@ pub fn turn(slots: &[Slot; 2047], marks: &mut [u8; 2047], i: usize) -> Tag
     requires { Site (kinds_of slots.now) (spans_of slots.now) i }
     ensures { Turned (kinds_of slots.now) (spans_of slots.now) marks.old marks.new i (meant result) }
 {
-    let node = formula::node_at(slots, i);
-    let kind = node.kind;
+    let Node { kind, left, right } = formula::node_at(slots, i);
     if formula::is_literal(kind) {
         return price::leaf();
     }
-    let left = node.left;
-    let right = node.right;
     let l = turn(slots, marks, left);
     let r = turn(slots, marks, right);
     let to_settle = formula::node_at(slots, i).kind;
@@ -87,18 +85,16 @@ fn price_placed(mark: u8, intersection: bool, l: Tag, r: Tag) -> Tag
     price::price(intersection, l, r)
 }
 
-// The tag of the expression held up to the slot i, arranged by the marks beside it. The kind is looked up again, as in `turn`.
+// The tag of the expression held up to the slot i, arranged by the marks beside it. The kind is looked up again, as in `turn`. The
+// two stay apart: one walk, with what is done at an operator as a closure, would hand that down through every level of the stack.
 pub fn price_by(slots: &[Slot; 2047], marks: &[u8; 2047], i: usize) -> Tag
     requires { MarkedSite (kinds_of slots.now) (spans_of slots.now) marks.now i }
     ensures { PricedBy (kinds_of slots.now) (spans_of slots.now) marks.now i (meant result) }
 {
-    let node = formula::node_at(slots, i);
-    let kind = node.kind;
+    let Node { kind, left, right } = formula::node_at(slots, i);
     if formula::is_literal(kind) {
         return price::leaf();
     }
-    let left = node.left;
-    let right = node.right;
     let l = price_by(slots, marks, left);
     let r = price_by(slots, marks, right);
     let to_price = formula::node_at(slots, i).kind;

@@ -10,7 +10,7 @@ use lib.ListN.{length}
 use Rattle.std.specs.Prelude.{Result, Ok, Err}
 use Rattle.std.specs.Result.{result_map_both}
 use Rattle.terms.specs.Refusals.{number_of, shown}
-use Rattle.run.specs.declared.HandedBack as held_back
+use Rattle.run.specs.declared.FeedRefused as held_refused
 use Rattle.terms.specs.declared.Refusal.{Refusal}
 use Rattle.terms.specs.Answer.{Answer, result, refused}
 use Rattle.compiler.specs.Compiled.{written}
@@ -67,7 +67,7 @@ module _ {table : List ℕ} {r : Result held.Run Refusal} (right : StartedRight 
     λ is. started_alike table r (Ok run) right (record { shown = sym is }),
   )
 
-module _ {run : held.Run} {table : List ℕ} {truth : Bool} {r : Result held.Run held_back.HandedBack} (right : FedRight run table truth r) where
+module _ {run : held.Run} {table : List ℕ} {truth : Bool} {r : Result held.Run held_refused.FeedRefused} (right : FedRight run table truth r) where
   pub feed_refused : (f : Refusal) → (r ≡ Err (record { refusal = f; run = run })) ↔ (fed (shown_run run) table truth ≡ refused (number_of f.reason) f.at)
   feed_refused f = (
     λ is. sym right.shown ∙ ap (λ x. shown shown_run (result_map_both (λ y. y) (λ h. h.refusal) x)) is,

@@ -8,17 +8,17 @@ use Rattle.turning.proofs.CodedWalk.{tested, turned_at_literal, left_site, right
 use Rattle.turning.proofs.turn.+turn.Goals as goal
 
 pub returns-then-is_literal : goal.returns-then-is_literal
-returns-then-is_literal t c = turned_at_literal _ _ _ _ _ (tested (kinds_of c.args.slots.now) (spans_of c.args.slots.now) c.args.i c.if-is_literal.ensures c.node_at-node.ensures) c.leaf.ensures
+returns-then-is_literal t c = turned_at_literal _ _ _ _ _ (tested (kinds_of c.args.slots.now) (spans_of c.args.slots.now) c.args.i c.if-is_literal.ensures c.node_at-kind.ensures) c.leaf.ensures
 
 pub turn-l-requires : goal.turn-l-requires
 turn-l-requires t c =
-    left_site _ _ _ c.requires (tested (kinds_of c.args.slots.now) (spans_of c.args.slots.now) c.args.i c.if-is_literal.ensures c.node_at-node.ensures) _ t c.decreases
-    (ap (λ (n : Node). n.left) c.node_at-node.ensures)
+    left_site _ _ _ c.requires (tested (kinds_of c.args.slots.now) (spans_of c.args.slots.now) c.args.i c.if-is_literal.ensures c.node_at-kind.ensures) _ t c.decreases
+    (ap (λ (n : Node). n.left) c.node_at-kind.ensures)
 
 pub turn-r-requires : goal.turn-r-requires
 turn-r-requires t c =
-    right_site _ _ _ c.requires (tested (kinds_of c.args.slots.now) (spans_of c.args.slots.now) c.args.i c.if-is_literal.ensures c.node_at-node.ensures) _ t c.decreases
-    (ap (λ (n : Node). n.right) c.node_at-node.ensures)
+    right_site _ _ _ c.requires (tested (kinds_of c.args.slots.now) (spans_of c.args.slots.now) c.args.i c.if-is_literal.ensures c.node_at-kind.ensures) _ t c.decreases
+    (ap (λ (n : Node). n.right) c.node_at-kind.ensures)
 
 pub settle-settled-requires : goal.settle-settled-requires
 settle-settled-requires t c =
@@ -26,9 +26,9 @@ settle-settled-requires t c =
     record {
       bs₁ = c.turn-l.new.marks;
       site = c.requires;
-      inner = tested (kinds_of c.args.slots.now) (spans_of c.args.slots.now) c.args.i c.if-is_literal.ensures c.node_at-node.ensures;
-      first = rw (ap (λ (n : Node). n.left) c.node_at-node.ensures) at c.turn-l.ensures;
-      second = rw (ap (λ (n : Node). n.right) c.node_at-node.ensures) at c.turn-r.ensures;
+      inner = tested (kinds_of c.args.slots.now) (spans_of c.args.slots.now) c.args.i c.if-is_literal.ensures c.node_at-kind.ensures;
+      first = rw (ap (λ (n : Node). n.left) c.node_at-kind.ensures) at c.turn-l.ensures;
+      second = rw (ap (λ (n : Node). n.right) c.node_at-kind.ensures) at c.turn-r.ensures;
     } in
     let p = before_settle _ _ _ _ _ _ _ w in
     record { small = p.0; small_2 = p.1 }
@@ -39,9 +39,9 @@ returns t c =
     record {
       bs₁ = c.turn-l.new.marks;
       site = c.requires;
-      inner = tested (kinds_of c.args.slots.now) (spans_of c.args.slots.now) c.args.i c.if-is_literal.ensures c.node_at-node.ensures;
-      first = rw (ap (λ (n : Node). n.left) c.node_at-node.ensures) at c.turn-l.ensures;
-      second = rw (ap (λ (n : Node). n.right) c.node_at-node.ensures) at c.turn-r.ensures;
+      inner = tested (kinds_of c.args.slots.now) (spans_of c.args.slots.now) c.args.i c.if-is_literal.ensures c.node_at-kind.ensures;
+      first = rw (ap (λ (n : Node). n.left) c.node_at-kind.ensures) at c.turn-l.ensures;
+      second = rw (ap (λ (n : Node). n.right) c.node_at-kind.ensures) at c.turn-r.ensures;
     } in
     let within : c.args.i < length c.turn-r.new.marks = omega arith in
     after_settle _ _ _ _ _ _ _ w within _ _ _
