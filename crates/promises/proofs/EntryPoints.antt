@@ -10,6 +10,7 @@ use lib.ListN.{length, take, drop}
 use Rattle.std.specs.Prelude.{Result, Ok, Err}
 use Rattle.terms.specs.Refusals.{number_of}
 use Rattle.run.specs.declared.FeedRefused.{FeedRefused}
+use Rattle.terms.specs.declared.Reason.{Reason}
 use Rattle.terms.specs.declared.Refusal.{Refusal}
 use Rattle.terms.specs.Terms.{first_label}
 use Rattle.terms.specs.Rows.{FirstOf, NoneOf}
@@ -29,6 +30,7 @@ use Rattle.run.proofs.Conform as conform
 use Rattle.run.proofs.Local as local
 use Rattle.promises.specs.Words.{Accepted, Alike}
 use Rattle.promises.proofs.Laws.Answers as answers
+use Rattle.promises.proofs.Laws.Reasons.{compile_reasoned, start_reasoned, feed_reasoned, answer_reasoned, by_number}
 use Rattle.promises.proofs.Laws.Meant as meant
 
 -- COMPILE: it was handed the text and a buffer that held `before`, answered r, and the buffer then held `after`.
@@ -36,6 +38,11 @@ module _ {text before after : List ℕ} {r : Result ℕ Refusal} (right : Compil
   -- "Every refusal is given exactly when its row says"; "Compiling tests 1 to 8 in that order, each over the whole text before the next"
   pub compile_refused_exactly : (f : Refusal) → (r ≡ Err f) ↔ FirstOf (compile_rows text (length before)) (number_of f.reason) f.at
   compile_refused_exactly f = Iff.trans (answers.compile_refused right f) (compiled_refused_by text (length before) (number_of f.reason) f.at)
+
+  -- the same by number and place, whatever they are
+  pub compile_refused_by_number : (q p : ℕ)
+      → ((x : Reason) × (number_of x ≡ q) × (r ≡ Err (record { reason = x; at = p }))) ↔ FirstOf (compile_rows text (length before)) q p
+  compile_refused_by_number = by_number (compile_rows text (length before)) (compile_reasoned text (length before)) compile_refused_exactly
 
   -- "a refused compile has written nothing"
   pub refused_compile_writes_nothing : (f : Refusal) → r ≡ Err f → after ≡ before
@@ -56,6 +63,10 @@ module _ {table : List ℕ} {r : Result coded.Run Refusal} (right : StartedRight
   pub start_refused_exactly : (f : Refusal) → (r ≡ Err f) ↔ FirstOf (start_rows table) (number_of f.reason) f.at
   start_refused_exactly f = Iff.trans (answers.start_refused right f) (rows.start_refused table (number_of f.reason) f.at)
 
+  pub start_refused_by_number : (q p : ℕ)
+      → ((x : Reason) × (number_of x ≡ q) × (r ≡ Err (record { reason = x; at = p }))) ↔ FirstOf (start_rows table) q p
+  start_refused_by_number = by_number (start_rows table) (start_reasoned table) start_refused_exactly
+
   -- "Starting a run checks a whole table and gives a run at gate 0 with label 0."
   pub started_when_formed : (run : coded.Run)
       → (r ≡ Ok run) ↔ (WellFormed table × (shown_run run ≡ record { gate = 0; label = first_label }))
@@ -66,6 +77,10 @@ module _ {run : coded.Run} {table : List ℕ} {truth : Bool} {r : Result coded.R
   -- "A run tests 9 first, then 11 for a feed"
   pub feed_refused_exactly : (f : Refusal) → (r ≡ Err (record { refusal = f; run = run })) ↔ FirstOf (feed_rows (shown_run run) table) (number_of f.reason) f.at
   feed_refused_exactly f = Iff.trans (answers.feed_refused right f) (rows.feed_refused (shown_run run) table truth (number_of f.reason) f.at)
+
+  pub feed_refused_by_number : (q p : ℕ)
+      → ((x : Reason) × (number_of x ≡ q) × (r ≡ Err (record { refusal = record { reason = x; at = p }; run = run }))) ↔ FirstOf (feed_rows (shown_run run) table) q p
+  feed_refused_by_number = by_number (feed_rows (shown_run run) table) (feed_reasoned (shown_run run) table) feed_refused_exactly
 
   -- "a refused step hands its run back unchanged"
   pub refused_feed_hands_back : (f : Refusal) (back : coded.Run) → r ≡ Err (record { refusal = f; run = back }) → back ≡ run
@@ -81,6 +96,10 @@ module _ {run : coded.Run} {table : List ℕ} {r : Result Bool Refusal} (right :
   -- "10 then 12 for an answer"
   pub answer_refused_exactly : (f : Refusal) → (r ≡ Err f) ↔ FirstOf (answer_rows (shown_run run) table) (number_of f.reason) f.at
   answer_refused_exactly f = Iff.trans (answers.answer_refused right f) (rows.answer_refused (shown_run run) table (number_of f.reason) f.at)
+
+  pub answer_refused_by_number : (q p : ℕ)
+      → ((x : Reason) × (number_of x ≡ q) × (r ≡ Err (record { reason = x; at = p }))) ↔ FirstOf (answer_rows (shown_run run) table) q p
+  answer_refused_by_number = by_number (answer_rows (shown_run run) table) (answer_reasoned (shown_run run) table) answer_refused_exactly
 
   pub answered_when_no_row : (truth : Bool)
       → (r ≡ Ok truth) ↔ (NoneOf (answer_rows (shown_run run) table) × EndsOn table (shown_run run).label truth)

@@ -10,6 +10,7 @@ pub mod Said
 pub mod Named
 pub mod Meant
 pub mod Answers
+pub mod Reasons
 pub mod Plain
 pub mod Readers
 pub mod Driving

@@ -7,10 +7,8 @@ use native.Mathlib.Omega.{arith}
 use lib.ListN.{length}
 use Rattle.std.specs.Prelude.{Result, Ok, Err}
 use Rattle.terms.specs.declared.Refusal.{Refusal}
-use Rattle.terms.specs.declared.Reason.{Reason}
-use Rattle.terms.specs.declared.Reason.TheVariants.{NotWellFormed, NotAtEnd, PastGates, NeitherEnd}
-use Rattle.terms.specs.Refusals.{number_of, shown}
-use Rattle.terms.proofs.Rows.{EachNumber, first_number}
+use Rattle.terms.specs.Refusals.{shown}
+use Rattle.terms.proofs.Rows.{first_number}
 use Rattle.terms.specs.Answer.{Answer, result, refused, on_result}
 use Rattle.formula.specs.Typed.{Typed, numbers, typed_value}
 use Rattle.formula.specs.Occurrences.{truth_at}
@@ -23,6 +21,7 @@ use Rattle.run.specs.Shown.{shown_run}
 use Rattle.run.proofs.Rows.{start_refused, feed_refused, answer_refused}
 use Rattle.promises.specs.Words.{Accepted, gate_of_each}
 use Rattle.promises.specs.Driving.{Onward, Trace, was_refused_onward, was_refused}
+use Rattle.promises.proofs.Laws.Reasons.{Reasoned, start_reasoned, feed_reasoned, answer_reasoned}
 use Rattle.promises.proofs.Laws.Accepted.{run_typed}
 
 -- what follows a run
@@ -81,26 +80,6 @@ module _ {text table : List ℕ} {room : ℕ} {e : Typed} (accepted : Accepted t
       by (Ok t) is way = unrefused way
       by (Err f) is way = let z : ◌≡◌ {A = ℕ} 0 1 = cc in absurd (omega arith)
 
--- each refusal of a run has a reason's number
-abbrev Reasoned : ℕ → Type 0
-Reasoned n = (x : Reason) × (number_of x ≡ n)
-
-start_reasoned : (table : List ℕ) {n at : ℕ} → started table ≡ refused n at → Reasoned n
-unfolding EachNumber
-start_reasoned table {n} {at} is =
-    first_number Reasoned (start_rows table) ((NotWellFormed, refl), tt) n at ((start_refused table n at).0 is)
-
-feed_reasoned : (r : Run) (table : List ℕ) (u : Bool) {n at : ℕ} → fed r table u ≡ refused n at → Reasoned n
-unfolding EachNumber
-feed_reasoned r table u {n} {at} is =
-    first_number Reasoned (feed_rows r table) ((NotWellFormed, refl), ((PastGates, refl), tt)) n at ((feed_refused r table u n at).0 is)
-
-answer_reasoned : (r : Run) (table : List ℕ) {n at : ℕ} → answered r table ≡ refused n at → Reasoned n
-unfolding EachNumber
-answer_reasoned r table {n} {at} is =
-    first_number Reasoned (answer_rows r table) ((NotWellFormed, refl), ((NotAtEnd, refl), ((NeitherEnd, refl), tt))) n at
-    ((answer_refused r table n at).0 is)
-
 -- There is such a trace for every table and every row of truths: the definitions' own answers are conforming.
 onward_exists : (table : List ℕ) (us : List Bool) (r : held.Run) → (a : Result Bool Refusal) × Onward table r us a
 onward_exists table [] r = by (answered (shown_run r) table) refl
@@ -108,7 +87,7 @@ onward_exists table [] r = by (answered (shown_run r) table) refl
     by : (x : Answer Bool) → answered (shown_run r) table ≡ x → (a : Result Bool Refusal) × Onward table r [] a
     by (result t) is = (Ok t, Onward.asked (record { shown = sym is }))
     by (refused n at) is =
-        let (x, same) = answer_reasoned (shown_run r) table is in
+        let (x, same) = first_number Reasoned (answer_rows (shown_run r) table) (answer_reasoned (shown_run r) table) n at ((answer_refused (shown_run r) table n at).0 is) in
         (Err (record { reason = x; at = at }), Onward.asked (record { shown = ap (λ q. refused q at) same ∙ sym is }))
 onward_exists table (u ∷ us) r = by (fed (shown_run r) table u) refl (onward_exists table us)
   where
@@ -118,7 +97,7 @@ onward_exists table (u ∷ us) r = by (fed (shown_run r) table u) refl (onward_e
         let (a, rest) = later (record { gate = next.gate; label = record { 0 = next.label } }) in
         (a, Onward.fed (record { shown = sym is; handed_back = tt }) rest)
     by (refused n at) is later =
-        let (x, same) = feed_reasoned (shown_run r) table u is in (
+        let (x, same) = first_number Reasoned (feed_rows (shown_run r) table) (feed_reasoned (shown_run r) table) n at ((feed_refused (shown_run r) table u n at).0 is) in (
           Err (record { reason = x; at = at }),
           Onward.feed_refused {back = r} (record { shown = ap (λ q. refused q at) same ∙ sym is; handed_back = refl }),
         )
@@ -131,5 +110,5 @@ some_trace table us = by (started table) refl
         let (a, rest) = onward_exists table us (record { gate = r.gate; label = record { 0 = r.label } }) in
         (a, Trace.started (record { shown = sym is }) rest)
     by (refused n at) is =
-        let (x, same) = start_reasoned table is in
+        let (x, same) = first_number Reasoned (start_rows table) (start_reasoned table) n at ((start_refused table n at).0 is) in
         (Err (record { reason = x; at = at }), Trace.start_refused (record { shown = ap (λ q. refused q at) same ∙ sym is }))
