@@ -49,22 +49,19 @@ fn is_blank(bytes: &[u8]) -> bool {
 
 // Whether the buffer holds the table that is due, of n bytes, and is blank behind it.
 fn table_agrees(n: usize, due: &[u8], out: &[u8]) -> bool {
-    match out.split_at_checked(n) {
-        Some((table, rest)) => table == due && is_blank(rest),
-        None => false,
-    }
+    out.split_at_checked(n)
+        .is_some_and(|(table, rest)| table == due && is_blank(rest))
 }
 
 // Whether the refusal is the one that is due, and the buffer is blank.
 fn refusal_agrees(refusal: Refusal, due: &[u8], out: &[u8]) -> bool {
-    match due {
-        [b'R', reason, low, high] => {
-            *reason == u8::from(refusal.reason)
+    matches!(
+        due,
+        [b'R', reason, low, high]
+            if *reason == u8::from(refusal.reason)
                 && number(*low, *high) == refusal.at
                 && is_blank(out)
-        }
-        _ => false,
-    }
+    )
 }
 
 // Whether the compiler gives the answer that is due, in a buffer of the room that the record names.

@@ -11,23 +11,17 @@ use std::io::Stdout;
 use texts::Text;
 
 // The examples that are written as they stand.
-fn typed(output: &Stdout, out: &mut [u8; 6151]) {
-    for text in ["5", "1-2", "!(1+2)", "!!5", "1*2+3*4", "1+2*3", "1+2-3"] {
-        let _ = show(output, text.as_bytes(), text.as_bytes(), out);
-    }
-}
+const TYPED: &[&str] = &["5", "1-2", "!(1+2)", "!!5", "1*2+3*4", "1+2*3", "1+2-3"];
 
 // Chains of `+`, `-` and `*`: with `-` in the product the last would have two labels.
-fn chains(output: &Stdout, out: &mut [u8; 6151]) {
-    for text in ["1-2*3", "1*2-3", "1-2-3", "1-2+3", "1-(2-3)", "1+2-3*4"] {
-        let _ = show(output, text.as_bytes(), text.as_bytes(), out);
-    }
-}
+const CHAINS: &[&str] = &["1-2*3", "1*2-3", "1-2-3", "1-2+3", "1-(2-3)", "1+2-3*4"];
 
 // The examples that are refused where they stand, and a neighbour.
-fn refused(output: &Stdout, out: &mut [u8; 6151]) {
-    let _ = show(output, b"no text", b"", out);
-    for text in ["1+", "1-", "1 2", "()", "1024 &", "1024", "1023", "00001"] {
+const REFUSED: &[&str] = &["1+", "1-", "1 2", "()", "1024 &", "1024", "1023", "00001"];
+
+// Texts that are their own names.
+fn as_typed(output: &Stdout, texts: &[&str], out: &mut [u8; 6151]) {
+    for text in texts {
         let _ = show(output, text.as_bytes(), text.as_bytes(), out);
     }
 }
@@ -122,9 +116,10 @@ fn main(rt: HostRuntime) {
     let output = rt.stdout();
     let mut text = Text::new();
     let mut out = [0u8; 6151];
-    typed(&output, &mut out);
-    chains(&output, &mut out);
-    refused(&output, &mut out);
+    as_typed(&output, TYPED, &mut out);
+    as_typed(&output, CHAINS, &mut out);
+    let _ = show(&output, b"no text", b"", &mut out);
+    as_typed(&output, REFUSED, &mut out);
     large(&output, &mut out);
     limits(&output, &mut text, &mut out);
     longest(&output, &mut text, &mut out);

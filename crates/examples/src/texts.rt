@@ -3,6 +3,7 @@ ghost use Rattle.std.specs.Prelude.{[], ◌∷◌, ◌≡◌, ◌≤◌, take};
 ghost use Rattle.examples.specs.Code.Texts.{Put, repeated, row_text, nested_text, left_deep_text, right_deep_text, exchanged_text, deep_chain_text, crossed_text, sign, halved, balanced_text};
 
 // A text at the front of its room, and where it ends.
+// A buffer and its end: what the builders promise, `Put`, speaks of the room behind the text as well.
 #[derive(Drop)]
 pub struct Text {
     bytes: [u8; 16385],

@@ -1,12 +1,11 @@
 -- Texts written one behind the other are one text written; what is written at the start of a buffer leaves the rest. Assumes nothing.
-use Prim.Native.Nat.{ℕ, ◌+◌, ◌≤◌, ◌<◌}
+use Prim.Native.Nat.{ℕ, ◌+◌, ◌≤◌}
 use mathlib.Core.Path.{◌≡◌, refl, sym, ap, ◌∙◌}
-use mathlib.Core.List.{List, [], ◌∷◌, ◌++◌}
+use mathlib.Core.List.{List, [], ◌++◌}
 use native.Mathlib.Nat.{zero-add}
-use native.Mathlib.Numerals.{add-one}
 use native.Mathlib.Omega.{arith}
-use lib.ListN.{length, take, drop, get_or, length-append, length-take}
-use lib.Seq.{sets-eq, length-sets, take-suc}
+use lib.ListN.{length, drop, length-append, length-take}
+use lib.Seq.{sets-eq, length-sets}
 use Rattle.terms.proofs.Stores.{sets_append}
 use Rattle.listing.specs.declared.Page.{Page}
 use Rattle.listing.specs.Code.Written.{Written, WrittenWithin, Printed}
@@ -33,10 +32,6 @@ tight w h = record { written = w; near = omega arith }
 
 pub whole : {p q : Page} {xs : List ℕ} → Written p q xs → WrittenWithin (length xs) p q xs
 whole w = tight w (omega arith)
-
--- the first bytes of a word, and the next one
-pub next_byte : {p q s : Page} (word : List ℕ) (i : ℕ) → i < length word → Written p q (take i word) → Written q s (get_or word i 0 ∷ []) → Written p s (take (i + 1) word)
-next_byte word i h v w = rw (add-one, take-suc word i 0 h) (then v w)
 
 -- a page on which nothing was written before
 pub printed : {p q : Page} {old new text : List ℕ} → Written p q text → p.at ≡ 0 → p.out.now ≡ old → new ≡ q.out.now → length text ≤ length old → Printed old new text q.at

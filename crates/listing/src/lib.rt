@@ -2,14 +2,15 @@
 
 #![tactic(auto)]
 
-ghost use Rattle.std.specs.Prelude.{◌≡◌, [], ◌∷◌, ◌+◌, ◌≤◌, ◌<◌, length};
-ghost use Rattle.terms.specs.Terms.{most_literals};
+ghost use Rattle.std.specs.Prelude.{◌≡◌, [], ◌∷◌, ◌++◌, ◌+◌, ◌≤◌, ◌<◌, length};
+ghost use Rattle.terms.specs.Texts.{bytes};
 ghost use Rattle.table.specs.Shown.{shown_gate};
-ghost use Rattle.listing.specs.Lines.{decimal, spaced, sign, three_labels, gate_line, pair_line, ends_line, lines, refusal_line};
+ghost use Rattle.listing.specs.Lines.{sign, three_labels, gate_line, pair_line, ends_line, lines, refusal_line};
 ghost use Rattle.listing.specs.Code.Written.{Written, WrittenWithin, Printed, Listable};
 
+use itoa::{Buffer, Integer};
 use table::Gate;
-use terms::{Label, Place, Primitive};
+use terms::{Label, Place};
 
 // A lent buffer, and where its next byte goes.
 #[derive(Drop)]
@@ -28,50 +29,31 @@ impl<'a> Page<'a> {
         Page { out, at: 0 }
     }
 
-    fn byte(&mut self, byte: u8)
-        requires { self.old.at < 32768 }
-        ensures { Written self.old self.new (byte ∷ []) }
-    {
-        self.out[self.at] = byte;
-        self.at += 1;
-    }
-
     fn word(&mut self, word: &[u8])
         requires { self.old.at + length word.now ≤ 32768 }
         ensures { Written self.old self.new word.now }
     {
-        for byte in word {
-            self.byte(*byte);
-        }
+        let out = &mut *self.out;
+        let end = self.at + word.len();
+        out[self.at..end].copy_from_slice(word);
+        self.at = end;
     }
 
-    // A number's decimal digits: those of its tenth part, and then its last one. By hand, since what std prints with says
-    // nothing of the bytes where it fails, and a listing cannot fail.
-    #[tactic(auto, using(crate::proofs::Decimals::decimal_last, crate::proofs::Decimals::length_more))]
-    fn digits(&mut self, n: usize)
-        requires { self.old.at + length (decimal n) ≤ 32768 }
-        ensures { Written self.old self.new (decimal n) }
+    // A number's decimal digits.
+    fn number<I: Integer>(&mut self, n: I)
+        requires { self.old.at + I.MAX_STR_LEN ≤ 32768 }
+        ensures { WrittenWithin I.MAX_STR_LEN self.old self.new (I.text n) }
     {
-        if 10 <= n {
-            self.digits(n / 10);
-        }
-        self.byte(b'0' + (n % 10) as u8);
-    }
-
-    // A number, which has no more than 20 digits.
-    fn number(&mut self, n: usize)
-        requires { self.old.at + 20 ≤ 32768 }
-        ensures { WrittenWithin 20 self.old self.new (decimal n) }
-    {
-        self.digits(n);
+        let mut buffer = Buffer::new();
+        self.word(buffer.format(n).as_bytes());
     }
 
     // A space, and a number.
-    fn spaced(&mut self, n: usize)
-        requires { self.old.at + 21 ≤ 32768 }
-        ensures { WrittenWithin 21 self.old self.new (spaced n) }
+    fn spaced<I: Integer>(&mut self, n: I)
+        requires { self.old.at + (1 + I.MAX_STR_LEN) ≤ 32768 }
+        ensures { WrittenWithin (1 + I.MAX_STR_LEN) self.old self.new (bytes " " ++ I.text n) }
     {
-        self.byte(b' ');
+        self.word(b" ");
         self.number(n);
     }
 
@@ -87,41 +69,25 @@ impl<'a> Page<'a> {
         }
     }
 
-    // A label has no more than three digits, and a primitive no more than five, so each has a function of its own.
-    fn label(&mut self, label: Label)
-        requires { self.old.at + 21 ≤ 32768 }
-        ensures { WrittenWithin 4 self.old self.new (spaced label.0) }
-    {
-        self.spaced(usize::from(label.0));
-    }
-
-    fn primitive(&mut self, primitive: Primitive)
-        requires { self.old.at + 21 ≤ 32768 }
-        ensures { WrittenWithin 6 self.old self.new (spaced primitive.0) }
-    {
-        self.spaced(usize::from(primitive.0));
-    }
-
     fn labels(&mut self, own: Label, on_true: Label, on_false: Label)
-        requires { self.old.at + 29 ≤ 32768 }
+        requires { self.old.at + 12 ≤ 32768 }
         ensures { WrittenWithin 12 self.old self.new (three_labels own.0 on_true.0 on_false.0) }
     {
-        self.label(own);
-        self.label(on_true);
-        self.label(on_false);
+        self.spaced(own.0);
+        self.spaced(on_true.0);
+        self.spaced(on_false.0);
     }
 
     // The line of gate k.
     fn gate(&mut self, k: Place, gate: Gate)
-        requires at_bound { self.old.at + 64 ≤ 32768 }
-        requires k_lt_most_literals { k.0 < most_literals }
-        ensures { WrittenWithin 25 self.old self.new (gate_line k.0 (shown_gate gate)) }
+        requires { self.old.at + 26 ≤ 32768 }
+        ensures { WrittenWithin 26 self.old self.new (gate_line k.0 (shown_gate gate)) }
     {
-        self.number(usize::from(k));
-        self.primitive(gate.primitive);
+        self.number(k.0);
+        self.spaced(gate.primitive.0);
         self.sign(gate.kind);
         self.labels(gate.own, gate.on_true, gate.on_false);
-        self.byte(b'\n');
+        self.word(b"\n");
     }
 
     // A line of two words, each with a number behind it.
@@ -133,7 +99,7 @@ impl<'a> Page<'a> {
         self.number(m);
         self.word(second);
         self.number(n);
-        self.byte(b'\n');
+        self.word(b"\n");
     }
 
     // The line of the two end labels, which is the last one.
@@ -172,6 +138,7 @@ pub fn print_table(table: &[u8], out: &mut [u8; 32768]) -> usize
 }
 
 // Writes the line of a refusal, by its number and its place, and answers how many bytes it is.
+// By number: it prints any, where a `Reason` would ask more of its callers.
 pub fn print_refusal(number: u8, at: usize, out: &mut [u8; 32768]) -> usize
     ensures { Printed out.old out.new (refusal_line number at) result }
 {

@@ -5,4 +5,4 @@ use Rattle.listing.specs.Code.Written.{WrittenWithin}
 use Rattle.listing.proofs.print_table.Given as goal
 
 abbrev pub invariant-loop-k : goal.invariant-loop-k
-invariant-loop-k l = WrittenWithin (25 * l.k) l.initial.page l.page (gate_lines l.table l.k)
+invariant-loop-k l = WrittenWithin (26 * l.k) l.initial.page l.page (gate_lines l.table l.k)

@@ -1,11 +1,6 @@
--- A number of 64 bits has no more than 20 digits, so there is room for them.
-use Rattle.std.proofs.Common.{arith}
-use Rattle.listing.proofs.Decimals.{decimal_short}
+-- The text is written, and is as short as the library says.
 use Rattle.listing.proofs.Writing.{tight}
 use Rattle.listing.proofs.Page.number.Goals as goal
 
-pub digits-requires : goal.digits-requires
-digits-requires c = omega (arith, decimal_short 19 c.args.n (omega arith))
-
 pub returns : goal.returns
-returns c = tight c.digits.ensures (decimal_short 19 c.args.n (omega arith))
+returns g c = tight (rw (c.as_bytes.ensures.value, c.format.ensures.text) at c.word.ensures) (rw c.format.ensures.text at c.format.ensures.fits)

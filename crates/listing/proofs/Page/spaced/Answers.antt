@@ -5,4 +5,4 @@ use Rattle.listing.proofs.Page.spaced.Goals as goal
 
 pub returns : goal.returns
 unfolding bytes
-returns c = then_within (whole c.byte.ensures) c.number.ensures
+returns g c = then_within (whole c.word.ensures) c.number.ensures
