@@ -14,15 +14,14 @@ use Rattle.std.proofs.lemmas.List.Folds.{length-prefix_len}
 use Rattle.terms.specs.Terms.{greatest_primitive}
 use Rattle.formula.specs.Typed.{number}
 use Rattle.grammar.specs.declared.Sign.{Sign}
-use Rattle.grammar.specs.declared.Sign.TheVariants.{Bang, Blank}
-use Rattle.text.specs.Code.DigitRun.{digit_of}
+use Rattle.grammar.specs.declared.Sign.TheVariants.{Digit, Bang, Blank}
 use Rattle.grammar.specs.Bytes.{sign_of, is_digit, numeral_from}
 use Rattle.grammar.specs.Twins.Places.{sign_at, no_digit_before, run_at, runs_before, bad_run}
 use Rattle.grammar.specs.Twins.Reader.{Waiting, wanted, inside, complete, product_with, next_state}
 use Rattle.text.specs.Code.Readers.{is_blank, leads, behind, more, flipped, complementing, reads_on, Over, Skipped, Passed, OperandAt, Numbered}
 use Rattle.grammar.proofs.Complete.{inside_another}
-use Rattle.text.proofs.ScanTests.{by_test}
-use Rattle.text.proofs.ReadSigns.{pass_is, blank_is, digit_is, tested}
+use Rattle.text.proofs.ScanTests.{by_test, not_both}
+use Rattle.text.proofs.ReadSigns.{pass_is, blank_is, tested}
 use Rattle.text.proofs.ReadSteps.{place-cons, beyond, stands, step_on, step_same}
 use Rattle.text.proofs.ReadRuns.{runs_kept, runs_start, runs_inside, clear_after, digit_after, number_small, numeral_step}
 use Rattle.text.proofs.ScanBad.{numeral_grows}
@@ -114,7 +113,7 @@ pub passed_next : {text : List ℕ} {at i : ℕ} {sense s : Bool} → Passed tex
     → Passed text at sense (i + 1) (behind (sign_at text i) s)
 passed_next {text} {at} {i} p e = passed_by p (pass_stands text i e) (pass_is (sign_at text i) e)
 
--- the same by what calls of `look`, `leads` and `behind` gave
+-- the same by what calls of `leads` and `behind` gave
 pub passed_on : {text : List ℕ} {at i : ℕ} {sense s t s' : Bool} {k : Sign} → Passed text at sense i s → k ≡ sign_at text i → t ≡ leads k → t ≡ true
     → s' ≡ behind k s → Passed text at sense (i + 1) s'
 passed_on {text} {at} {i} {sense} {s} p e f g h =
@@ -139,46 +138,37 @@ pub record Digits (text : List ℕ) (at i v : ℕ) : Type 0 where
 pub digit_stands : (text : List ℕ) (i : ℕ) → is_digit (sign_at text i) ≡ true → i < length text
 digit_stands text i e = stands text i is_digit refl e
 
-pub digits_start : (text : List ℕ) (at : ℕ) → is_digit (sign_at text at) ≡ true → no_digit_before text at ≡ true → bad_run text ≡ none
-    → Digits text at (at + 1) (digit_of (sign_at text at))
-digits_start text at d c b =
-    let h = digit_stands text at d in
+pub digits_start : (text : List ℕ) (at : ℕ) {d : ℕ} → sign_at text at ≡ Digit d → no_digit_before text at ≡ true → bad_run text ≡ none
+    → Digits text at (at + 1) d
+digits_start text at {d} here c b =
+    let e = ap is_digit here in
+    let h = digit_stands text at e in
     record {
       past = omega arith;
       within = omega arith;
-      small = rw (zero-add (digit_of (sign_at text at))) at (rw (numeral_step text at 0 h d) at (number_small text at b h d c));
-      runs = runs_start text at d c;
-      cut = digit_after text at d;
-      reads = λ w outer.
-          step_on text at (wanted w) (inside w (digit_of (sign_at text at))) outer outer h
-          (ap (λ (x : Sign). next_state (wanted w) x outer) (digit_is (sign_at text at) d));
+      small = rw (zero-add d) at (rw (numeral_step text at 0 h here) at (number_small text at b h e c));
+      runs = runs_start text at e c;
+      cut = digit_after text at e;
+      reads = λ w outer. step_on text at (wanted w) (inside w d) outer outer h (ap (λ (x : Sign). next_state (wanted w) x outer) here);
     }
-
--- the same by what calls of `look` and `digit_of` gave
-pub digits_first : (text : List ℕ) (at : ℕ) → is_digit (sign_at text at) ≡ true → no_digit_before text at ≡ true → bad_run text ≡ none
-    → {k : Sign} {v : ℕ} → k ≡ sign_at text at → v ≡ digit_of k → Digits text at (at + 1) v
-digits_first text at d c b e f = subst (λ (x : ℕ). Digits text at (at + 1) x) (sym (f ∙ ap digit_of e)) (digits_start text at d c b)
 
 module _ {text : List ℕ} {at i v : ℕ} (p : Digits text at i v) where
   pub digits_small : v ≤ greatest_primitive
   digits_small = let g = numeral_grows v (run_at text i) in omega (arith, p.small)
 
-  pub digits_next : is_digit (sign_at text i) ≡ true → Digits text at (i + 1) (10 * v + digit_of (sign_at text i))
-  digits_next d =
-      let h = digit_stands text i d in
+  pub digits_next : {d : ℕ} → sign_at text i ≡ Digit d → Digits text at (i + 1) (10 * v + d)
+  digits_next {d} here =
+      let e = ap is_digit here in
+      let h = digit_stands text i e in
       record {
         past = omega (arith, p.past);
         within = omega arith;
-        small = rw (numeral_step text i v h d) at p.small;
-        runs = runs_inside text i d p.cut ∙ p.runs;
-        cut = digit_after text i d;
+        small = rw (numeral_step text i v h here) at p.small;
+        runs = runs_inside text i e p.cut ∙ p.runs;
+        cut = digit_after text i e;
         reads = λ w outer. p.reads w outer
-            ∙ step_on text i (inside w v) (inside w (10 * v + digit_of (sign_at text i))) outer outer h
-            (ap (λ (x : Sign). next_state (inside w v) x outer) (digit_is (sign_at text i) d));
+            ∙ step_on text i (inside w v) (inside w (10 * v + d)) outer outer h (ap (λ (x : Sign). next_state (inside w v) x outer) here);
       }
-
-  pub digits_on : {k : Sign} {t : Bool} {d : ℕ} → k ≡ sign_at text i → t ≡ is_digit k → t ≡ true → d ≡ digit_of k → Digits text at (i + 1) (10 * v + d)
-  digits_on e f g h = subst (λ (x : ℕ). Digits text at (i + 1) (10 * v + x)) (sym (h ∙ ap digit_of e)) (digits_next (tested is_digit e f g))
 
   pub digits_end : is_digit (sign_at text i) ≡ false → Numbered text at (record { value = record { 0 = v }; next = i })
   digits_end d =
@@ -196,3 +186,37 @@ module _ {text : List ℕ} {at i v : ℕ} (p : Digits text at i v) where
   digits_all h =
       let e : i ≡ length text = omega (arith, p.within) in
       rw (← e) (digits_end (ap is_digit (beyond text i h)))
+
+-- none of the digits of the number at `at` has been passed, or n of them, with the value v so far
+abbrev pub Begun : List ℕ → ℕ → ℕ → ℕ → Type 0
+Begun text at n v = ((n ≡ 0) × (v ≡ 0)) ⊎ Digits text at (at + n) v
+
+module _ {text : List ℕ} {at n v : ℕ} where
+  pub begun_small : Begun text at n v → v ≤ greatest_primitive
+  begun_small (inl h) = omega (arith, h.1)
+  begun_small (inr p) = digits_small p
+
+  pub begun_next : {d : ℕ} → no_digit_before text at ≡ true → bad_run text ≡ none → Begun text at n v → sign_at text (at + n) ≡ Digit d
+      → Begun text at (n + 1) (10 * v + d)
+  begun_next {d} c b (inl h) here =
+      let z : at + n ≡ at = omega (arith, h.0) in
+      let one : at + (n + 1) ≡ at + 1 = omega (arith, h.0) in
+      let e : 10 * v + d ≡ d = omega (arith, h.1) in
+      inr (rw (one, e) (digits_start text at (rw z at here) c b))
+  begun_next c b (inr p) here =
+      let e : at + (n + 1) ≡ at + n + 1 = omega arith in
+      inr (rw e (digits_next p here))
+
+  pub begun_end : is_digit (sign_at text at) ≡ true → Begun text at n v → is_digit (sign_at text (at + n)) ≡ false
+      → Numbered text at (record { value = record { 0 = v }; next = at + n })
+  begun_end d (inl h) e =
+      let z : at + n ≡ at = omega (arith, h.0) in
+      absurd (not_both _ d (rw z at e))
+  begun_end d (inr p) e = digits_end p e
+
+  pub begun_all : is_digit (sign_at text at) ≡ true → Begun text at n v → length text ≤ at + n
+      → Numbered text at (record { value = record { 0 = v }; next = length text })
+  begun_all d (inl h) l =
+      let s = digit_stands text at d in
+      absurd (omega (arith, h.0))
+  begun_all d (inr p) l = digits_all p l

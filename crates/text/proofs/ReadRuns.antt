@@ -1,7 +1,7 @@
 -- Runs of digits and their count, place by place; and what it means that a search finds nothing.
 -- Assumes nothing.
 use Prim.Native.Nat.{ℕ, ◌+◌, ◌*◌, ◌≤◌, ◌<◌}
-use mathlib.Core.Path.{◌≡◌, sym}
+use mathlib.Core.Path.{◌≡◌, sym, ap}
 use mathlib.Core.Bool.{Bool, true, false, ◌||◌}
 use mathlib.Core.Option.{none}
 use mathlib.Core.List.{List}
@@ -11,7 +11,7 @@ use lib.Dec.{ltb}
 use lib.ListN.{length, get_or}
 use borrow.Author.Tests.{ltb-false}
 use Rattle.terms.specs.Terms.{greatest_primitive}
-use Rattle.text.specs.Code.DigitRun.{digit_of}
+use Rattle.grammar.specs.declared.Sign.TheVariants.{Digit}
 use Rattle.grammar.specs.Bytes.{is_digit, numeral_from, numeral}
 use Rattle.grammar.specs.Twins.Places.{sign_at, no_digit_before, run_at, runs_before, bad_run_at, bad_run}
 use Rattle.text.proofs.ReadSigns.{clash}
@@ -47,7 +47,7 @@ number_small text i b h d c = small (ltb 4 (length (run_at text i))) (rw (d, c) 
     small false e = ltb-false greatest_primitive (numeral (run_at text i)) e
 
 -- one digit of a run, and the value with it
-pub numeral_step : (text : List ℕ) (i v : ℕ) → i < length text → is_digit (sign_at text i) ≡ true
-    → numeral_from v (run_at text i) ≡ numeral_from (10 * v + digit_of (sign_at text i)) (run_at text (i + 1))
+pub numeral_step : (text : List ℕ) (i v : ℕ) {d : ℕ} → i < length text → sign_at text i ≡ Digit d
+    → numeral_from v (run_at text i) ≡ numeral_from (10 * v + d) (run_at text (i + 1))
 unfolding numeral_from
-numeral_step text i v h e = rw (run_digit text i h e, digit_value (get_or text i 0) e)
+numeral_step text i v h here = rw (run_digit text i h (ap is_digit here), digit_value (get_or text i 0) here)

@@ -11,7 +11,6 @@ use Rattle.grammar.specs.declared.Operator.{Operator}
 use Rattle.grammar.specs.declared.Operator.TheVariants.{Plus, Times, Minus}
 use Rattle.grammar.specs.declared.Sign.{Sign}
 use Rattle.grammar.specs.declared.Sign.TheVariants.{Digit, Joins, Bang, Open, Close, Blank, Other}
-use Rattle.text.specs.Code.DigitRun.{digit_of}
 use Rattle.grammar.specs.Bytes.{is_digit}
 use Rattle.grammar.specs.Twins.Places.{is_open, is_close}
 use Rattle.grammar.specs.Twins.Reader.{of_sums, of_products, level, Pending, joined, Waiting, stuck, closing, on_wanted, on_complete}
@@ -40,18 +39,15 @@ blank_is Close e = absurd (clash e)
 blank_is Blank e = refl
 blank_is Other e = absurd (clash e)
 
-pub digit_is : (k : Sign) → is_digit k ≡ true → k ≡ Digit (digit_of k)
-digit_is (Digit d) e = refl
-digit_is (Joins o) e = absurd (clash e)
-digit_is Bang e = absurd (clash e)
-digit_is Open e = absurd (clash e)
-digit_is Close e = absurd (clash e)
-digit_is Blank e = absurd (clash e)
-digit_is Other e = absurd (clash e)
-
--- what a match on the sign that a call of `look` gave told of it
+-- what a match on the sign that a call gave told of it
 pub no_digit : {k k' : Sign} → k ≡ k' → ((d : ℕ) → k ≡ Digit d → ⊥) → is_digit k' ≡ false
-no_digit {k' = k'} e f = by_test (is_digit k') (λ t. absurd (f (digit_of k') (e ∙ digit_is k' t))) (λ t. t)
+no_digit {k' = Digit d} e f = absurd (f d e)
+no_digit {k' = Joins o} e f = refl
+no_digit {k' = Bang} e f = refl
+no_digit {k' = Open} e f = refl
+no_digit {k' = Close} e f = refl
+no_digit {k' = Blank} e f = refl
+no_digit {k' = Other} e f = refl
 
 pub no_open : {k k' : Sign} → k ≡ k' → (k ≡ Open → ⊥) → is_open k' ≡ false
 no_open {k' = k'} e f = by_test (is_open k') (λ t. absurd (f (e ∙ is_open_true k' t))) (λ t. t)

@@ -1,13 +1,14 @@
 -- One step of the machine at a place of a text, by what stands there.
 -- Assumes nothing.
-use Prim.Native.Nat.{ℕ, ◌+◌, ◌≤◌, ◌<◌}
+use Prim.Native.Nat.{ℕ, ◌+◌, ◌-◌, ◌≤◌, ◌<◌}
 use mathlib.Core.Path.{◌≡◌, sym, ap, ◌∙◌}
 use mathlib.Core.Bool.{Bool, true, false}
 use mathlib.Core.List.{List, ◌∷◌}
 use native.Mathlib.Decide.{dec_lt}
 use native.Mathlib.Numerals.{add-one}
 use native.Mathlib.Omega.{arith}
-use lib.ListN.{length, get_or, drop, drop_of_length-le, get_or-eq_default}
+use lib.ListN.{length, get_or, take, drop, length-drop, drop_of_length-le, get_or-eq_default}
+use Rattle.std.proofs.lemmas.List.{take_rest, get_or-drop}
 use lib.Seq.{drop-cons}
 use Rattle.grammar.specs.declared.Sign.{Sign}
 use Rattle.grammar.specs.declared.Sign.TheVariants.{Other}
@@ -19,6 +20,14 @@ use Rattle.text.proofs.ReadSigns.{clash}
 
 pub place-cons : (text : List ℕ) (i : ℕ) → i < length text → drop i text ≡ get_or text i 0 ∷ drop (i + 1) text
 place-cons text i h = rw (add-one, drop-cons text i 0)
+
+-- the bytes from a place on, as a loop over them reads them
+module _ (text : List ℕ) (at i : ℕ) where
+  pub sign_on : {k : Sign} → k ≡ sign_of (get_or (take (length text - at) (drop at text)) i 0) → k ≡ sign_at text (at + i)
+  sign_on e = e ∙ rw (take_rest text at) (ap sign_of (get_or-drop at text i 0))
+
+  pub ended_on : length (take (length text - at) (drop at text)) ≤ i → length text ≤ at + i
+  ended_on h = omega (arith, rw (take_rest text at, length-drop at text) at h)
 
 pub beyond : (text : List ℕ) (i : ℕ) → length text ≤ i → sign_at text i ≡ Other
 unfolding sign_of

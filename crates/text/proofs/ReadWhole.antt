@@ -1,12 +1,14 @@
 -- A whole text: what its reading means where an expression ends with it, and which refusal is given where none does.
 -- Assumes nothing.
-use Prim.Native.Nat.{ℕ, ◌+◌, ◌-◌, ◌*◌, ◌/◌, ◌≤◌, ◌<◌}
+use Prim.Native.Nat.{ℕ, ◌-◌, ◌*◌, ◌≤◌, ◌<◌}
 use mathlib.Core.Path.{◌≡◌, refl, ap, ◌∙◌}
 use mathlib.Core.Bool.{true}
 use mathlib.Core.Option.{none}
 use mathlib.Core.List.{List, []}
 use native.Mathlib.Omega.{arith}
 use lib.ListN.{length, drop, drop_of_length-le}
+use Rattle.std.specs.Int.{div_ceil}
+use Rattle.std.proofs.lemmas.Grind.{div_ceil_times}
 use Rattle.terms.specs.declared.Reason.TheVariants.{NotASum}
 use Rattle.terms.specs.declared.Refusal.{Refusal}
 use Rattle.formula.specs.Typed.{positive}
@@ -53,15 +55,16 @@ module _ {text : List ℕ} (a : Allowed text) where
   unfolding reading typed_reading
   refused_fault p s = rw (a.short, a.plain, a.sound, a.shallow, s)
 
-  pub held_right : {ks ss : List ℕ} {n : ℕ} → surplus text ≡ none → Whole text (slots ks ss) n → HeldRight text ks ss ((n + 1) / 2)
+  pub held_right : {ks ss : List ℕ} {n : ℕ} → surplus text ≡ none → Whole text (slots ks ss) n → HeldRight text ks ss (div_ceil n 2)
   unfolding reading typed_reading
   held_right {ks} {ss} {n} few w =
       let e = w.meaning in
       let f = w.filled in
-      let back : 2 * ((n + 1) / 2) - 2 ≡ n - 1 = omega arith in
+      let m = div_ceil_times n 2 (omega arith) in
+      let back : 2 * div_ceil n 2 - 2 ≡ n - 1 = omega (arith, f, m.0, m.1) in
       record {
         form = positive 0 e;
         answer = rw (a.short, a.plain, a.sound, a.shallow, w.means, few);
-        count = omega (arith, form_literals true 0 e);
+        count = omega (arith, f, m.0, m.1, form_literals true 0 e);
         holds = rw back w.holds;
       }

@@ -1,7 +1,7 @@
 -- Runs of digits: the run at a place, and when the digits that bytes begin with are too large for a number.
 -- Assumes nothing.
 use Prim.Native.Nat.{ℕ, suc, ◌+◌, ◌-◌, ◌*◌, ◌≤◌, ◌<◌}
-use mathlib.Core.Path.{◌≡◌, refl, sym, ap, ◌∙◌}
+use mathlib.Core.Path.{◌≡◌, refl, ap, ◌∙◌}
 use mathlib.Core.Bool.{Bool, true, false, cond, ◌&&◌, ◌||◌, or-true}
 use mathlib.Core.List.{List, [], ◌∷◌}
 use native.Mathlib.Nat.{le_trans}
@@ -12,12 +12,10 @@ use lib.ListN.{length, get_or, drop_of_length-le}
 use lib.Seq.{drop-cons}
 use borrow.Author.Tests.{lt-ltb, le-ltb}
 use Rattle.terms.specs.Terms.{most_digits, greatest_primitive}
-use Rattle.grammar.specs.declared.Sign.{Sign}
 use Rattle.grammar.specs.declared.Operator.TheVariants.{Plus, Times, Minus}
 use Rattle.grammar.specs.declared.Sign.TheVariants.{Digit, Joins, Bang, Open, Close, Blank, Other}
 use Rattle.grammar.specs.Bytes.{sign_of, is_digit, zero_digit, nine_digit, shifted, numeral_from}
 use Rattle.grammar.specs.Twins.Places.{sign_at, leading_digits, run_at, too_large}
-use Rattle.text.specs.Code.DigitRun.{digit_of}
 use Rattle.text.proofs.ScanTests.{by_test, not_both}
 
 -- behind the test for digits no sign is one
@@ -33,12 +31,12 @@ no_digit_else false false false false false false true n = refl
 no_digit_else false false false false false false false true = refl
 no_digit_else false false false false false false false false = refl
 
-pub digit_value : (b : ℕ) → is_digit (sign_of b) ≡ true → digit_of (sign_of b) ≡ b - zero_digit
+pub digit_value : (b : ℕ) {d : ℕ} → sign_of b ≡ Digit d → d ≡ b - zero_digit
 unfolding sign_of
 digit_value b h =
-    by_test (leb zero_digit b && leb b nine_digit) (λ e. rw e)
+    by_test (leb zero_digit b && leb b nine_digit) (λ e. let same = rw e at h in cc)
     (λ e.
-    absurd (not_both _ (rw e at h)
+    absurd (not_both _ (ap is_digit (rw e at h))
     (no_digit_else (eqb b 43) (eqb b 42) (eqb b 45) (eqb b 33) (eqb b 40) (eqb b 41) (eqb b 32) (eqb b 10))))
 
 -- the run at a place: a digit and the run behind it, or nothing
@@ -59,15 +57,6 @@ pub numeral_grows : (v : ℕ) (w : List ℕ) → v ≤ numeral_from v w
 unfolding numeral_from
 numeral_grows v [] = omega arith
 numeral_grows v (b ∷ w) = le_trans (omega arith) (numeral_grows (shifted v (b - zero_digit)) w)
-
-pub no_digit : (k : Sign) → ((d : ℕ) → k ≡ Digit d → ⊥) → is_digit k ≡ false
-no_digit (Digit d) h = absurd (h d refl)
-no_digit (Joins o) h = refl
-no_digit Bang h = refl
-no_digit Open h = refl
-no_digit Close h = refl
-no_digit Blank h = refl
-no_digit Other h = refl
 
 -- whether digits that follow so many others with such a value make them too large for a number
 abbrev large_behind : ℕ → ℕ → List ℕ → Bool
@@ -103,9 +92,9 @@ module _ {bytes : List ℕ} {i value : ℕ} (p : Passed bytes i value) where
     unfolding numeral_from
     passed_digit =
         let e : is_digit (sign_at bytes i) ≡ true = ap is_digit here in
-        let v : get_or bytes i 0 - zero_digit ≡ d = sym (digit_value (get_or bytes i 0) e) ∙ ap digit_of here in
+        let v = digit_value (get_or bytes i 0) here in
         let n : i + suc (length (run_at bytes (i + 1))) ≡ i + 1 + length (run_at bytes (i + 1)) = omega arith in
-        p.left ∙ rw (run_digit bytes i h e, ← v, n)
+        p.left ∙ rw (run_digit bytes i h e, v, n)
 
     pub passed_many : most_digits ≤ i → too_large (leading_digits bytes) ≡ true
     passed_many q =

@@ -89,15 +89,6 @@ level_next text i h =
     ∙ ap (λ (x : ℕ). pos (opened s + one_if (is_open (sign_at text i))) -ℤ pos x) (shut_more s (get_or text i 0))
     ∙ counts_with (opened s) (shut s) (sign_at text i)
 
-pub not_open : (k : Sign) → (k ≡ Open → ⊥) → is_open k ≡ false
-not_open (Digit d) f = refl
-not_open (Joins o) f = refl
-not_open Bang f = refl
-not_open Open f = absurd (f refl)
-not_open Close f = refl
-not_open Blank f = refl
-not_open Other f = refl
-
 pub not_close : (k : Sign) → (k ≡ Close → ⊥) → is_close k ≡ false
 not_close (Digit d) f = refl
 not_close (Joins o) f = refl

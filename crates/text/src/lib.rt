@@ -79,5 +79,5 @@ pub fn read(text: &[u8], slots: &mut [Slot; 2047]) -> Result<usize, Refusal>
     first_refusal(text)?;
     crowded(text)?;
     let filled = readers::whole(text, slots)?;
-    Ok((filled + 1) / 2)
+    Ok(filled.div_ceil(2))
 }

@@ -9,15 +9,14 @@ ghost use Rattle.grammar.specs.Twins.Places.{sign_at, no_digit_before, bad_run};
 ghost use Rattle.text.specs.Code.Readers.{is_blank, leads, behind, meets, binding, of_factors, most_slots, slots_of, Ready, Skipped, OperandAt, Numbered, FactorMeans, Built, FactorRead, ProductRead, SumRead, Closed, WholeRead};
 
 use crate::Stop;
-use crate::scan::digit_of;
 use formula::{Slot, join_number, literal_number, put};
-use grammar::{OF_PRODUCTS, OF_SUMS, Operator, Sign, is_close, is_digit, level};
+use grammar::{OF_PRODUCTS, OF_SUMS, Operator, Sign, is_close, level};
 use terms::Primitive;
 
 // Where reading stands: the next place in the text, and the next free slot. The text and the slots stay parameters beside it: of
 // a struct that lent both, each contract would have to promise that the text is kept.
 #[derive(Clone, Copy)]
-pub struct Cursor {
+struct Cursor {
     at: usize,
     free: usize,
 }
@@ -115,11 +114,11 @@ fn operand_at(text: &[u8], at: usize, sense: bool) -> Operand
     ensures { OperandAt text.now at sense result }
 {
     let mut turned = sense;
-    for i in at..text.len() {
-        let sign = Sign::from(text[i]);
+    for (i, byte) in text[at..].iter().enumerate() {
+        let sign = Sign::from(*byte);
         if !leads(sign) {
             return Operand {
-                at: i,
+                at: at + i,
                 sense: turned,
             };
         }
@@ -138,12 +137,12 @@ fn number(text: &[u8], at: usize) -> Numeral
     requires sound { bad_run text.now ≡ none }
     ensures { Numbered text.now at result }
 {
-    let mut value = u16::from(digit_of(look(text, at)));
-    for i in at + 1..text.len() {
-        let Sign::Digit(digit) = Sign::from(text[i]) else {
+    let mut value = 0;
+    for (i, byte) in text[at..].iter().enumerate() {
+        let Sign::Digit(digit) = Sign::from(*byte) else {
             return Numeral {
                 value: Primitive(value),
-                next: i,
+                next: at + i,
             };
         };
         value = 10 * value + u16::from(digit);
@@ -218,7 +217,9 @@ fn factor(text: &[u8], slots: &mut [Slot], from: Cursor, sense: bool) -> Result<
 
 // A product: factors joined by `*`, from the left. It and the sum stay two functions, each a sentence of the grammar: one
 // over the level would take what a part means by the level in each clause.
+// Inlined: every level of parentheses would take 112 bytes more of the stack.
 #[cycle(factor_product_sum)]
+#[inline(always)]
 fn product(text: &[u8], slots: &mut [Slot], from: Cursor, sense: bool) -> Result<Cursor, Stop>
     requires { Ready text.now from.at from.free (slots_of slots.old) }
     ensures { ProductRead text.now from.at sense from.free (slots_of slots.old) (slots_of slots.new) result }

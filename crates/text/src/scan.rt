@@ -1,27 +1,17 @@
-// Flat passes over a text, each one walk from the first byte on with nothing built: a byte not allowed, a run of digits that
-// is no number, parentheses too deep, the first number beyond the most literals, and whether the text is a sum by the grammar.
+// Flat passes over a text, each from the first byte on with nothing built: a byte not allowed, a run of digits that is no number,
+// parentheses too deep, the first number beyond the most literals, and whether the text is a sum by the grammar. Two of them find
+// where runs of digits start, by the byte before a digit; `bad_run` then looks over the run from there, at five bytes at most.
 ghost use Rattle.std.specs.Prelude.{◌≡◌, ◌+◌, ◌<◌, length};
 ghost use Rattle.std.specs.Int.{w64};
 ghost use Rattle.std.proofs.Common.{Fits};
 ghost use Rattle.grammar.specs.Twins.Places.{run_starts, leading_digits, too_large, foreign_byte, bad_run_at, bad_run, too_deep, surplus};
 ghost use Rattle.grammar.specs.Twins.Reader.{read};
-ghost use Rattle.text.specs.Code.DigitRun.{digit_of};
 ghost use Rattle.text.specs.Code.Flat.{flat_wanted, flat_complete, flat_step, flat_end, verdict};
 ghost use Rattle.text.specs.Code.Found.{found_as};
 
 use crate::Stop;
 use grammar::{Sign, is_digit, is_other};
 use terms::{DEEPEST, GREATEST_PRIMITIVE, MOST_DIGITS, MOST_LITERALS};
-
-// What a digit stands for; nought for any other sign.
-pub fn digit_of(sign: Sign) -> u8
-    ensures { result ≡ digit_of sign }
-{
-    match sign {
-        Sign::Digit(d) => d,
-        _ => 0,
-    }
-}
 
 // The first byte that is not allowed.
 pub fn foreign(text: &[u8]) -> Option<usize>

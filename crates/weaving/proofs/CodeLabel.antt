@@ -45,9 +45,6 @@ module _ {st : coded.Store} {hs : List ℕ} {k t f : Place} {os ts fs : List ℕ
   pub leave_asked : 0 < k → HasOne hs k
   leave_asked x = let r = a.reachable in has_one st hs a.store r.keeps k (r.own x) r.few_before
 
-  pub entered_asked : 0 < k → 1 ≤ get_or hs k 0
-  entered_asked x = (leave_asked x).some
-
   module _ {st₁ : coded.Store} {hs₁ : List ℕ} (gone : GaveBack st hs st₁ hs₁ k) where
     keeps₁ : Keeps st₁ hs₁ (left k a.store)
     keeps₁ = gone.each a.store a.reachable.keeps a.reachable.own
@@ -66,11 +63,11 @@ module _ {st : coded.Store} {hs : List ℕ} {k t f : Place} {os ts fs : List ℕ
         keeps₃ : Keeps st₃ hs₃ (labelled f (labelled t (left k a.store)))
         keeps₃ = two.each _ keeps₂
 
-        pub true_asked : 1 ≤ get_or hs₃ t 0
-        true_asked = omega (arith, label_kept st₃ hs₃ _ keeps₃ t (has_before t f (left k a.store)))
-
-        pub false_asked : 1 ≤ get_or hs₃ f 0
-        false_asked = omega (arith, label_kept st₃ hs₃ _ keeps₃ f (has_last f (labelled t (left k a.store))))
+        pub both_asked : (1 ≤ get_or hs₃ t 0) × (1 ≤ get_or hs₃ f 0)
+        both_asked = (
+          omega (arith, label_kept st₃ hs₃ _ keeps₃ t (has_before t f (left k a.store))),
+          omega (arith, label_kept st₃ hs₃ _ keeps₃ f (has_last f (labelled t (left k a.store)))),
+        )
 
 -- the places of a gate, as the code reads them
 pub steppable_at : (gates : List LaidGate) {st : coded.Store} {hs os ts fs : List ℕ} {i k : ℕ} → i ≡ k
@@ -155,9 +152,9 @@ module _ (trues falses : List ℕ) (n : ℕ) (os ts fs : List ℕ) where
     places_below [] count numbered leads = absurd (not-suc-le-zero {n = 0} (omega arith))
     places_below (g ∷ rest) count (more p ps) (labelled_spec.more gt gf ls) = (rw (et, gt) p.true_below, rw (ef, gf) p.false_below)
 
-    pub step_asked : Going trues falses n os ts fs e st hs k os' ts' fs' → n ≤ most_literals → length hs ≡ 1026
+    pub step_asked : Going trues falses n os ts fs e st hs k os' ts' fs' → n ≤ most_literals
         → k < length os' → k < length ts' → k < length fs' → Steppable st hs k t f os' ts' fs'
-    step_asked g few long owns on_trues on_falses =
+    step_asked g few owns on_trues on_falses =
         let b = places_below g.rest g.count g.numbered g.leads in
         record {
           store = g.store;
@@ -250,9 +247,9 @@ midway_none m {st} empty = record { each = λ e l. going_none _ _ _ _ _ _ e st _
 
 module _ {trues falses os ts fs : List ℕ} {n : ℕ} (l : Labelling trues falses n os ts fs) {st : coded.Store} {hs : List ℕ} {k : ℕ} {os' ts' fs' : List ℕ}
     (m : Midway trues falses n os ts fs st hs k os' ts' fs') where
-  pub midway_asked : {t f : Place} → k < n → t ≡ get_or trues k 0 → f ≡ get_or falses k 0 → length hs ≡ 1026
+  pub midway_asked : {t f : Place} → k < n → t ≡ get_or trues k 0 → f ≡ get_or falses k 0
       → k < length os' → k < length ts' → k < length fs' → Steppable st hs k t f os' ts' fs'
-  midway_asked h et ef long = step_asked _ _ _ _ _ _ l.tree st hs k os' ts' fs' _ _ h et ef (m.each l.tree l.labelable) l.few long
+  midway_asked h et ef = step_asked _ _ _ _ _ _ l.tree st hs k os' ts' fs' _ _ h et ef (m.each l.tree l.labelable) l.few
 
   pub midway_on : {t f : Place} {st₁ : coded.Store} {hs₁ os₁ ts₁ fs₁ : List ℕ} → k < n → t ≡ get_or trues k 0 → f ≡ get_or falses k 0
       → Stepped st hs k t f st₁ hs₁ os' ts' fs' os₁ ts₁ fs₁ → Midway trues falses n os ts fs st₁ hs₁ (k + 1) os₁ ts₁ fs₁

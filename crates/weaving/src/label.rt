@@ -9,103 +9,82 @@ ghost use Rattle.weaving.specs.Code.Labelled.{Labelled, Labelling, Stepped, Step
 use crate::label_store::Store;
 use terms::{Ends, FIRST_LABEL, Label, LaidGate, Place};
 
-// The label that a place holds.
-fn label_of(held: &[Option<Label>], place: Place) -> Label
-    requires place_in_bounds { place.0 < length held.now }
-    requires bound { 1 ≤ get_or (numbers_of held.now) place.0 0 }
-    ensures { result.0 + 1 ≡ get_or (numbers_of held.now) place.0 0 }
-{
-    held[usize::from(place)].unwrap()
+// The labels in use: the store of the free ones, and which of them each place holds.
+#[derive(Drop)]
+struct Keeper {
+    store: Store,
+    held: [Option<Label>; 1026],
 }
 
-// A place that has no label gets the lowest free one.
-fn hold(store: Store, held: &mut [Option<Label>], place: Place) -> Store
-    requires place_in_bounds { place.0 < length held.old }
-    requires some_free { SomeFree store }
-    ensures { Handed store (numbers_of held.old) result (numbers_of held.new) place.0 }
-{
-    let at = usize::from(place);
-    if held[at].is_some() {
-        return store;
+impl Keeper {
+    // The label that a place holds.
+    fn label_of(&self, place: Place) -> Label
+        requires { 1 ≤ get_or (numbers_of self.now.held) place.0 0 }
+        ensures { result.0 + 1 ≡ get_or (numbers_of self.now.held) place.0 0 }
+    {
+        self.held[usize::from(place)].unwrap()
     }
-    let label = store.lowest_free();
-    held[at] = Some(label);
-    store.take(label)
-}
 
-// A gate after the first gives back its own label.
-fn leave(store: Store, held: &mut [Option<Label>], k: Place) -> Store
-    requires k_in_bounds { k.0 < length held.old }
-    requires has_one { 0 < k.0 → HasOne (numbers_of held.old) k.0 }
-    ensures { GaveBack store (numbers_of held.old) result (numbers_of held.new) k.0 }
-{
-    if k.0 == 0 {
-        return store;
+    // A place that has no label gets the lowest free one.
+    fn hold(&mut self, place: Place)
+        requires place_in_bounds { place.0 < 1026 }
+        requires some_free { SomeFree self.old.store }
+        ensures { Handed self.old.store (numbers_of self.old.held) self.new.store (numbers_of self.new.held) place.0 }
+    {
+        let at = usize::from(place);
+        if self.held[at].is_none() {
+            let label = self.store.lowest_free();
+            self.held[at] = Some(label);
+            self.store = self.store.take(label);
+        }
     }
-    let own = label_of(held, k);
-    held[usize::from(k)] = None;
-    store.give_back(own)
-}
 
-// The label that gate k is entered on.
-fn entered_on(held: &[Option<Label>], k: Place) -> Label
-    requires k_in_bounds { k.0 < length held.now }
-    requires bound { 0 < k.0 → 1 ≤ get_or (numbers_of held.now) k.0 0 }
-    ensures first { k.0 ≡ 0 → result.0 ≡ first_label }
-    ensures later { 0 < k.0 → result.0 + 1 ≡ get_or (numbers_of held.now) k.0 0 }
-{
-    if k.0 == 0 {
-        return Label(FIRST_LABEL);
+    // The label that gate k is entered on, which a gate after the first gives back.
+    fn leave(&mut self, k: Place) -> Label
+        requires { 0 < k.0 → HasOne (numbers_of self.old.held) k.0 }
+        ensures first { k.0 ≡ 0 → result.0 ≡ first_label }
+        ensures later { 0 < k.0 → result.0 + 1 ≡ get_or (numbers_of self.old.held) k.0 0 }
+        ensures gave_back { GaveBack self.old.store (numbers_of self.old.held) self.new.store (numbers_of self.new.held) k.0 }
+    {
+        if k.0 == 0 {
+            return Label(FIRST_LABEL);
+        }
+        let own = self.held[usize::from(k)].take().unwrap();
+        self.store = self.store.give_back(own);
+        own
     }
-    label_of(held, k)
-}
 
-// Writes the label that gate k is entered on, and those of its places.
-fn put_labels(k: Place, own: Label, on_true: Label, on_false: Label, gates: &mut [LaidGate])
-    requires { k.0 < length gates.old }
-    ensures owns { owns_of gates.new ≡ set (owns_of gates.old) k.0 own.0 }
-    ensures on_trues { on_trues_of gates.new ≡ set (on_trues_of gates.old) k.0 on_true.0 }
-    ensures on_falses { on_falses_of gates.new ≡ set (on_falses_of gates.old) k.0 on_false.0 }
-    ensures literals_kept { SameLiterals gates.old gates.new }
-    ensures places_kept { SamePlaces gates.old gates.new }
-{
-    let gate = &mut gates[usize::from(k)];
-    gate.own = own;
-    gate.on_true = on_true;
-    gate.on_false = on_false;
-}
+    // The labels that two places hold.
+    fn ends(&self, t: Place, f: Place) -> Ends
+        requires { (1 ≤ get_or (numbers_of self.now.held) t.0 0) × (1 ≤ get_or (numbers_of self.now.held) f.0 0) }
+        ensures on_true_value { result.on_true.0 + 1 ≡ get_or (numbers_of self.now.held) t.0 0 }
+        ensures on_false_value { result.on_false.0 + 1 ≡ get_or (numbers_of self.now.held) f.0 0 }
+    {
+        Ends {
+            on_true: self.label_of(t),
+            on_false: self.label_of(f),
+        }
+    }
 
-// Gate k with its two places: the label that it is entered on, and the labels of its places after it.
-fn step(store: Store, held: &mut [Option<Label>], k: Place, gates: &mut [LaidGate]) -> Store
-    requires { Steppable store (numbers_of held.old) k.0 (get_or (true_places_of gates.old) k.0 0) (get_or (false_places_of gates.old) k.0 0) (owns_of gates.old) (on_trues_of gates.old) (on_falses_of gates.old) }
-    ensures stepped { Stepped store (numbers_of held.old) k.0 (get_or (true_places_of gates.old) k.0 0) (get_or (false_places_of gates.old) k.0 0) result (numbers_of held.new) (owns_of gates.old) (on_trues_of gates.old) (on_falses_of gates.old) (owns_of gates.new) (on_trues_of gates.new) (on_falses_of gates.new) }
-    ensures literals_kept { SameLiterals gates.old gates.new }
-    ensures places_kept { SamePlaces gates.old gates.new }
-{
-    let LaidGate {
-        true_place: t,
-        false_place: f,
-        ..
-    } = gates[usize::from(k)];
-    let own = entered_on(held, k);
-    let freed = leave(store, held, k);
-    let next = hold(hold(freed, held, t), held, f);
-    let on_true = label_of(held, t);
-    let on_false = label_of(held, f);
-    put_labels(k, own, on_true, on_false, gates);
-    next
-}
-
-// The labels of the two ends.
-fn ends_of(held: &[Option<Label>], t: Place, f: Place) -> Ends
-    requires t_in_bounds { (t.0 < length held.now) × (f.0 < length held.now) }
-    requires bound { (1 ≤ get_or (numbers_of held.now) t.0 0) × (1 ≤ get_or (numbers_of held.now) f.0 0) }
-    ensures on_true_value { result.on_true.0 + 1 ≡ get_or (numbers_of held.now) t.0 0 }
-    ensures on_false_value { result.on_false.0 + 1 ≡ get_or (numbers_of held.now) f.0 0 }
-{
-    Ends {
-        on_true: label_of(held, t),
-        on_false: label_of(held, f),
+    // Gate k with its two places: the label that it is entered on, and the labels of its places after it.
+    fn step(&mut self, k: Place, gates: &mut [LaidGate])
+        requires { Steppable self.old.store (numbers_of self.old.held) k.0 (get_or (true_places_of gates.old) k.0 0) (get_or (false_places_of gates.old) k.0 0) (owns_of gates.old) (on_trues_of gates.old) (on_falses_of gates.old) }
+        ensures stepped { Stepped self.old.store (numbers_of self.old.held) k.0 (get_or (true_places_of gates.old) k.0 0) (get_or (false_places_of gates.old) k.0 0) self.new.store (numbers_of self.new.held) (owns_of gates.old) (on_trues_of gates.old) (on_falses_of gates.old) (owns_of gates.new) (on_trues_of gates.new) (on_falses_of gates.new) }
+        ensures literals_kept { SameLiterals gates.old gates.new }
+        ensures places_kept { SamePlaces gates.old gates.new }
+    {
+        let at = usize::from(k);
+        let gate = gates[at];
+        let own = self.leave(k);
+        self.hold(gate.true_place);
+        self.hold(gate.false_place);
+        let Ends { on_true, on_false } = self.ends(gate.true_place, gate.false_place);
+        gates[at] = LaidGate {
+            own,
+            on_true,
+            on_false,
+            ..gate
+        };
     }
 }
 
@@ -116,13 +95,14 @@ pub fn label(gates: &mut [LaidGate]) -> Ends
     ensures literals_kept { SameLiterals gates.old gates.new }
     ensures places_kept { SamePlaces gates.old gates.new }
 {
-    let mut held = [None; 1026];
-    let mut store = Store::all_free();
+    let n = gates.len() as u16;
+    let mut keeper = Keeper {
+        store: Store::all_free(),
+        held: [None; 1026],
+    };
     // by number, since `Stepped` is of the rows of all gates, so that `step` takes them all and the number of one
-    for k in 0..gates.len() {
-        store = step(store, &mut held, Place(k as u16), gates);
+    for k in 0..n {
+        keeper.step(Place(k), gates);
     }
-    let true_end = gates.len() as u16;
-    let false_end = true_end + 1;
-    ends_of(&held, Place(true_end), Place(false_end))
+    keeper.ends(Place(n), Place(n + 1))
 }

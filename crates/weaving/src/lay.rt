@@ -5,9 +5,9 @@ ghost use Rattle.std.specs.Prelude.{◌≡◌, suc, ◌+◌, ◌*◌, ◌/◌, �
 ghost use Rattle.terms.specs.Terms.{most_literals};
 ghost use Rattle.terms.specs.Laid.{primitives_of, senses_of, true_places_of, false_places_of};
 ghost use Rattle.formula.specs.Code.Held.{kinds_of, spans_of};
-ghost use Rattle.weaving.specs.Code.Laid.{places_of, laying_of, SameLiterals, SamePlaces, SameLabels, GateLaid, HandedTo, HandedDown, slot_laid, in_order_of, first_true, first_false, Pending, Operating, Layable, LaidOut};
+ghost use Rattle.weaving.specs.Code.Laid.{places_of, laying_of, SameLiterals, SamePlaces, SameLabels, GateLaid, HandedTo, HandedDown, slot_laid, in_order_of, Pending, Operating, Layable, LaidOut};
 
-use formula::{Kind, Slot};
+use formula::{Kind, Node, Slot};
 use terms::{LaidGate, Place, Primitive};
 
 // The slots of an operator's operands, in the order of the gates.
@@ -20,31 +20,11 @@ pub struct Operands {
 fn in_order(mark: u8, left: usize, right: usize) -> Operands
     ensures { result ≡ in_order_of mark left right }
 {
-    let (first, second) = if mark == 1 {
-        (right, left)
-    } else {
-        (left, right)
+    let (first, second) = match mark {
+        1 => (right, left),
+        _ => (left, right),
     };
     Operands { first, second }
-}
-
-// Where the first operand leads if true, and if false, if the first gate of the second one is `next`.
-fn first_true(kind: Kind, next: Place, t: Place) -> Place
-    ensures { result.0 ≡ first_true kind next.0 t.0 }
-{
-    match kind {
-        Kind::Intersection => next,
-        _ => t,
-    }
-}
-
-fn first_false(kind: Kind, next: Place, f: Place) -> Place
-    ensures { result.0 ≡ first_false kind next.0 f.0 }
-{
-    match kind {
-        Kind::Union => next,
-        _ => f,
-    }
 }
 
 // The place after the gates of a subtree of so many slots that starts at b: of every two slots but one, one is a literal's.
@@ -105,12 +85,16 @@ fn lay_operator(
     let Operands { first, second } = operands;
     let next = after(b, slots[first].span);
     hand(second, next, t, f, firsts, gates);
-    let on_true = first_true(kind, next, t);
-    let on_false = first_false(kind, next, f);
+    let (on_true, on_false) = match kind {
+        Kind::Union => (t, next),
+        Kind::Intersection => (next, f),
+        Kind::Literal { .. } => (t, f),
+    };
     hand(first, b, on_true, on_false, firsts, gates);
 }
 
 // The slot i: a literal is a gate, with the places that it was handed, and an operator hands down.
+// The four lists go one by one: a method of a struct of them would have to promise besides that they are the ones it was given.
 fn lay_slot(
     slots: &[Slot; 2047],
     marks: &[u8; 2047],
@@ -123,12 +107,12 @@ fn lay_slot(
     ensures laid { laying_of firsts.new gates.new ≡ slot_laid (kinds_of slots.now) (spans_of slots.now) marks.now i (laying_of firsts.old gates.old) }
     ensures labels_kept { SameLabels gates.old gates.new }
 {
-    let node = formula::node_at(slots, i);
+    let Node { kind, left, right } = formula::node_at(slots, i);
     let b = firsts[i];
-    match node.kind {
+    match kind {
         Kind::Literal { primitive, sense } => lay_gate(b, primitive, sense, gates),
         kind => {
-            let operands = in_order(marks[i], node.left, node.right);
+            let operands = in_order(marks[i], left, right);
             lay_operator(kind, operands, slots, b, firsts, gates);
         }
     }
@@ -140,12 +124,10 @@ pub fn lay(slots: &[Slot; 2047], marks: &[u8; 2047], gates: &mut [LaidGate])
     ensures laid { LaidOut (kinds_of slots.now) (spans_of slots.now) marks.now (length gates.old) (primitives_of gates.old) (senses_of gates.old) (true_places_of gates.old) (false_places_of gates.old) (primitives_of gates.new) (senses_of gates.new) (true_places_of gates.new) (false_places_of gates.new) }
     ensures labels_kept { SameLabels gates.old gates.new }
 {
-    let n = gates.len();
-    let root = 2 * n - 2;
-    let true_end = Place(n as u16);
-    let false_end = Place(n as u16 + 1);
+    let n = gates.len() as u16;
+    let root = 2 * gates.len() - 2;
     let mut firsts = [Place(0); 2047];
-    hand(root, Place(0), true_end, false_end, &mut firsts, gates);
+    hand(root, Place(0), Place(n), Place(n + 1), &mut firsts, gates);
     for i in (0..=root).rev() {
         lay_slot(slots, marks, i, &mut firsts, gates);
     }

@@ -22,4 +22,4 @@ returns-in_err-filled c =
     rw (p.1, p.2) (refused_fault c.in_ok-first_refusal.ensures _ c.in_err-filled.ensures)
 
 pub returns : goal.returns
-returns c = held_right c.in_ok-first_refusal.ensures c.in_ok-crowded.ensures c.in_ok-filled.ensures
+returns c = rw c.div_ceil.ensures (held_right c.in_ok-first_refusal.ensures c.in_ok-crowded.ensures c.in_ok-filled.ensures)

@@ -76,9 +76,9 @@ pub record Stepped (st : coded.Store) (hs : List ℕ) (k t f : Place) (st' : cod
 pub record Steppable (st : coded.Store) (hs : List ℕ) (k t f : Place) (os ts fs : List ℕ) : Type 0 where
   pub store : Store
   pub reachable : Reachable st hs k t f store
-  pub gate_within : k < length hs
-  pub true_within : t < length hs
-  pub false_within : f < length hs
+  pub gate_within : k < 1026
+  pub true_within : t < 1026
+  pub false_within : f < 1026
   pub owns_long : k < length os
   pub on_trues_long : k < length ts
   pub on_falses_long : k < length fs

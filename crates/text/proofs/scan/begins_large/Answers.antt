@@ -1,12 +1,13 @@
 -- A digit more is the fifth, or takes the value past the greatest, or does neither; and where none follows the run is over.
 use Rattle.std.proofs.Common.{arith, sym, ◌∙◌}
-use Rattle.text.proofs.ScanBad.{passed_none, passed_end, passed_other, passed_many, passed_great, passed_on, no_digit}
+use Rattle.text.proofs.ScanBad.{passed_none, passed_end, passed_other, passed_many, passed_great, passed_on}
+use Rattle.text.proofs.ReadSigns.{no_digit}
 use Rattle.text.proofs.scan.begins_large.Goals.{then-before-ge-MOST_DIGITS-via-then-before-ge-MOST_DIGITS, then-before-ge-MOST_DIGITS-via-else-before-ge-MOST_DIGITS+then-value-gt-GREATEST_PRIMITIVE}
 use Rattle.text.proofs.scan.begins_large.Goals as goal
 
 pub returns-in_default : goal.returns-in_default
 returns-in_default c =
-    sym (passed_other c.loop-before.invariant c.loop-before-test.true (no_digit _ (λ d e. c.in_default.not-Digit d (c.from.ensures ∙ e))))
+    sym (passed_other c.loop-before.invariant c.loop-before-test.true (no_digit c.from.ensures c.in_default.not-Digit))
 
 pub returns-then-before-ge-MOST_DIGITS : goal.returns-then-before-ge-MOST_DIGITS
 returns-then-before-ge-MOST_DIGITS c =

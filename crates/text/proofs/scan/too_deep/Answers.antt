@@ -2,7 +2,8 @@
 use Rattle.std.proofs.Common.{◌<◌, ◌^◌, length, arith, ap, sym, ◌∙◌}
 use Rattle.grammar.specs.Twins.Places.{is_open}
 use Rattle.text.proofs.ScanFirst.{first_start, first_passed, first_here, first_end}
-use Rattle.text.proofs.ScanDepth.{level_none, raised_fits, lowered_fits, level_raised, level_lowered, level_kept, passes_told, no_pass, not_open, not_close}
+use Rattle.text.proofs.ScanDepth.{level_none, raised_fits, lowered_fits, level_raised, level_lowered, level_kept, passes_told, no_pass, not_close}
+use Rattle.text.proofs.ReadSigns.{no_open}
 use Rattle.text.proofs.scan.too_deep.Goals.{in-Open+else-count-gt-DEEPEST, in-Close, in_default}
 use Rattle.text.proofs.scan.too_deep.Goals as goal
 
@@ -49,7 +50,7 @@ loop-i-preserved c =
           let told = no_pass text l.i h (ap is_open shuts) in
           (rw w.count-is (level_lowered text l.i h l.invariant.0 long shuts), l.invariant.1 ∙ first_passed _ l.i _ h told)
       | in_default w ↦
-          let no_open = not_open _ (λ e. w.in_default.not-Open (c.from.ensures ∙ e)) in
+          let no_open = no_open c.from.ensures w.in_default.not-Open in
           let no_close = not_close _ (λ e. w.in_default.not-Close (c.from.ensures ∙ e)) in
           let told = no_pass text l.i h no_open in
           (rw w.count-is (level_kept text l.i h l.invariant.0 no_open no_close), l.invariant.1 ∙ first_passed _ l.i _ h told)

@@ -11,8 +11,8 @@ abbrev pub invariant-loop-k : goal.invariant-loop-k
 invariant-loop-k l =
     record {
       midway : Midway (true_places_of l.initial.gates) (false_places_of l.initial.gates) (length l.initial.gates) (owns_of l.initial.gates)
-          (on_trues_of l.initial.gates) (on_falses_of l.initial.gates) l.store (numbers_of l.held) l.k (owns_of l.gates) (on_trues_of l.gates)
-          (on_falses_of l.gates);
+          (on_trues_of l.initial.gates) (on_falses_of l.initial.gates) l.keeper.store (numbers_of l.keeper.held) l.k (owns_of l.gates)
+          (on_trues_of l.gates) (on_falses_of l.gates);
       literals_kept : SameLiterals l.initial.gates l.gates;
       places_kept : SamePlaces l.initial.gates l.gates;
     }

@@ -14,20 +14,20 @@ bounds-marks-i c = omega (arith, (pending_slot c.requires.pending).0, length-map
 
 pub lay_operator-requires-clause-operating : goal.lay_operator-requires-clause-operating
 lay_operator-requires-clause-operating c =
-    operating _ _ c.args.marks.now _ c.node_at-node.ensures c.in_order-operands.ensures c.in_default.not-Literal
+    operating _ _ c.args.marks.now _ c.node_at-kind.ensures c.in_order-operands.ensures c.in_default.not-Literal
     (place_at c.args.firsts.now c.args.i)
     (length-map c.args.slots.now (λ (s : Slot). s.span) ∙ c.told-slots)
     c.requires.pending
 
 pub returns-in-Literal-clause-laid : goal.returns-in-Literal-clause-laid
 returns-in-Literal-clause-laid c =
-    literal_laid _ _ _ _ c.node_at-node.ensures (place_at c.args.firsts.now c.args.i) c.in-Literal.is c.lay_gate.ensures.laid
+    literal_laid _ _ _ _ c.node_at-kind.ensures (place_at c.args.firsts.now c.args.i) c.in-Literal.is c.lay_gate.ensures.laid
     c.lay_gate.ensures.places_kept.true_places
     c.lay_gate.ensures.places_kept.false_places
 
 pub returns-in_default-clause-laid : goal.returns-in_default-clause-laid
 returns-in_default-clause-laid c =
-    operator_laid _ _ _ _ c.node_at-node.ensures c.in_order-operands.ensures c.in_default.not-Literal (place_at c.args.firsts.now c.args.i)
+    operator_laid _ _ _ _ c.node_at-kind.ensures c.in_order-operands.ensures c.in_default.not-Literal (place_at c.args.firsts.now c.args.i)
     c.lay_operator.ensures.handed
     c.lay_operator.ensures.literals_kept.primitives
     c.lay_operator.ensures.literals_kept.senses
