@@ -19,7 +19,8 @@ fn root(n: usize) -> usize
     2 * n - 2
 }
 
-// Turns the held expression: one mark an operator.
+// Turns the held expression: one mark an operator. How many literals are held goes beside the slots, here and below, since that
+// is what a marking and a table are said of.
 pub fn plan(slots: &[Slot; 2047], marks: &mut [u8; 2047], n: usize)
     requires { HeldTree (kinds_of slots.now) (spans_of slots.now) n }
     ensures { Planned (kinds_of slots.now) (spans_of slots.now) marks.new n }

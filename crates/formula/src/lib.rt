@@ -55,7 +55,7 @@ pub fn is_literal(kind: Kind) -> bool
     matches!(kind, Kind::Literal { .. })
 }
 
-// The number that stands for a literal, and for an operator.
+// The number that stands for a literal, and for an operator. No `From`: it could not ask that a primitive has a number.
 pub fn literal_number(primitive: Primitive, sense: bool) -> u16
     requires { primitive.0 ≤ greatest_primitive }
     ensures { result ≡ literal_number primitive.0 sense }

@@ -47,6 +47,7 @@ impl From<u8> for Sign {
     }
 }
 
+// The tests of a sign. Four and not one: a sign to compare with would tell a digit from another digit too.
 pub fn is_other(sign: Sign) -> bool
     ensures { result ≡ is_other sign }
 {

@@ -9,7 +9,7 @@ ghost use Rattle.table.specs.Code.Written.{plain, table_bytes};
 use crate::{E, H, Header, N, P, end_start, record_start};
 use terms::{Ends, LaidGate, Place};
 
-// The kind of a plain gate, or of a complemented one, whose sense is 0.
+// The kind of a plain gate, or of a complemented one, whose sense is 0. No `From`: any byte is a sense.
 fn kind_byte(sense: u8) -> u8
     ensures { result ≡ kind_by_sense (plain sense) }
 {

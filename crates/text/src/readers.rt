@@ -68,7 +68,7 @@ fn meets(sign: Sign, sense: bool) -> bool
     }
 }
 
-// The level that a sign binds at; nought where it is no operator.
+// The level that a sign binds at; nought where it is no operator, which is less than any, as in the definition.
 fn binding(sign: Sign) -> u8
     ensures { result ≡ binding sign }
 {

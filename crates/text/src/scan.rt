@@ -123,7 +123,8 @@ fn on_complete(sign: Sign, depth: usize) -> Option<(Mode, usize)>
     }
 }
 
-// The same by the mode; a number goes on with a digit, and ends with anything else.
+// The same by the mode; a number goes on with a digit, and ends with anything else. By a mode and not by a closure each, since
+// the end of the text asks the mode too.
 fn flat_step(mode: Mode, sign: Sign, depth: usize) -> Option<(Mode, usize)>
     requires { Fits w64 (depth + 1) }
     ensures { result ≡ flat_step mode sign depth }

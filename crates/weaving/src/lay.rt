@@ -61,6 +61,7 @@ fn hand(at: usize, b: Place, t: Place, f: Place, firsts: &mut [Place; 2047], gat
     gate.false_place = f;
 }
 
+// What gates carry besides stays as it was, here and below: it is said of before and after, as no invariant of a type can say it.
 // An operator whose first gate is b reads there where it leads as a whole, and hands both operands their part. The first one's
 // gates come first, so that b is handed on to it.
 fn lay_operator(
