@@ -1,5 +1,6 @@
 // The functions for a viewer in C or Rust, which crates/blist_c exports. Each makes one plain struct of an entry point's answer: a
-// refusal's number, nought for none, with its place, and the values of the result; nought where a field has no meaning.
+// refusal's number, nought for none, with its place, and the values of the result; nought where a field has no meaning. Bytes and
+// noughts, since no enum crosses to C, and a `From` for each struct, since C knows each by its own fields.
 
 #![tactic(auto)]
 
@@ -97,10 +98,9 @@ fn plain_run(answer: Result<Run, Refusal>, gate: usize, label: u8) -> PlainRun
 {
     match answer {
         Ok(run) => PlainRun {
-            refusal: 0,
-            at: 0,
             gate: run.gate,
             label: run.label.0,
+            ..PlainRun::default()
         },
         Err(refusal) => {
             let number = u8::from(refusal.reason);

@@ -1,4 +1,4 @@
--- What the parts of compile ask of each other: an expression of n literals held in slices has room in them. Assumes nothing.
+-- What the parts of compile ask of each other: an expression of n literals held in slots has room in them. Assumes nothing.
 use Prim.Native.Nat.{ℕ, ◌≤◌, ◌<◌}
 use mathlib.Core.Path.{◌≡◌, sym, ap, ◌∙◌, subst}
 use mathlib.Core.Bool.{Bool, true, false}

@@ -58,6 +58,7 @@ pub fn finish(
             at: 0,
         });
     }
+    // Here and below a cast loses nothing: so many literals and labels fit, and a `try_from` would answer an error that cannot come.
     let length = table::table_length(n as u16);
     if out.len() < length {
         return Err(Refusal {

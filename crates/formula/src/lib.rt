@@ -17,7 +17,7 @@ pub enum Kind {
     Literal { primitive: Primitive, sense: bool },
 }
 
-// A node in two numbers: its kind's, and that of the slots of its subtree. An enum in place of the kind's number would take the
+// A node in two numbers: its kind's, and that of the slots of its subtree. Slots and no boxes, since there is no heap. An enum in place of the kind's number would take the
 // stack of a compilation past what tests/30-library.sh allows it.
 #[derive(Clone, Copy, Default)]
 pub struct Slot {
@@ -55,7 +55,8 @@ pub fn is_literal(kind: Kind) -> bool
     matches!(kind, Kind::Literal { .. })
 }
 
-// The number that stands for a literal, and for an operator. No `From`: it could not ask that a primitive has a number.
+// The number that stands for a literal, and for an operator. No `From`: a literal's takes no primitive past the greatest, and
+// an operator's is told by this name from any other truth.
 pub fn literal_number(primitive: Primitive, sense: bool) -> u16
     requires { primitive.0 ≤ greatest_primitive }
     ensures { result ≡ literal_number primitive.0 sense }

@@ -12,7 +12,7 @@ use itoa::{Buffer, Integer};
 use table::Gate;
 use terms::{Label, Place};
 
-// A lent buffer, and where its next byte goes.
+// A lent buffer, and where its next byte goes. Not a slice of what is left: the clauses name the whole buffer, before and after.
 #[derive(Drop)]
 struct Page<'a> {
     out: &'a mut [u8; 32768],

@@ -44,6 +44,7 @@ pub fn gate_read(table: &[u8], gate: usize) -> Result<Gate, Refusal>
             at: gate,
         });
     }
+    // one of the header's gates, so the cast loses nothing
     Ok(table::check_gate(table, header, Place(gate as u16))?)
 }
 

@@ -9,7 +9,8 @@ ghost use Rattle.table.specs.Code.Written.{plain, table_bytes};
 use crate::{E, H, Header, N, P, end_start, record_start};
 use terms::{Ends, LaidGate, Place};
 
-// The kind of a plain gate, or of a complemented one, whose sense is 0. No `From`: any byte is a sense.
+// The kind of a plain gate, or of a complemented one, whose sense is 0. No `From`: both are bytes, and from a byte to a byte there
+// is one.
 fn kind_byte(sense: u8) -> u8
     ensures { result ≡ kind_by_sense (plain sense) }
 {
@@ -48,6 +49,7 @@ pub fn write(out: &mut [u8], labels: u8, gates: &[LaidGate], ends: Ends)
     requires out_long { table_length (length gates.now) ≤ length out.old }
     ensures { out.new ≡ table_bytes (length gates.now) labels (primitives_of gates.now) (senses_of gates.now) (owns_of gates.now) (on_trues_of gates.now) (on_falses_of gates.now) ends.on_true.0 ends.on_false.0 ++ drop (table_length (length gates.now)) out.old }
 {
+    // at most 1,024 gates, so the casts lose nothing
     let header = Header {
         kind: H,
         gates: gates.len() as u16,

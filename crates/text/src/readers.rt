@@ -190,6 +190,7 @@ fn join(slots: &mut [Slot], start: usize, right: Cursor, intersection: bool) -> 
     ensures kinds_after { kinds_of slots.new ≡ set (kinds_of slots.old) right.free (join_number intersection) }
     ensures spans_after { spans_of slots.new ≡ set (spans_of slots.old) right.free (right.free + 1 - start) }
 {
+    // at most 2,047 slots, so the cast loses nothing
     let span = (right.free + 1 - start) as u16;
     put(slots, right.free, join_number(intersection), span);
     Cursor {

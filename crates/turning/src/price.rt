@@ -45,7 +45,7 @@ pub fn price(intersection: bool, l: Tag, r: Tag) -> Tag
     }
 }
 
-// The costs in order, largest first.
+// The costs in order, largest first. A sort would promise some order of them, of which it would still be to show that it is this.
 pub fn row(costs: [u16; 3]) -> [u16; 3]
     ensures { (m : Bool) → result ≡ row (with_costs m costs) }
 {

@@ -47,7 +47,7 @@ pub fn settle(intersection: bool, l: Tag, r: Tag) -> Settled
     }
 }
 
-// Puts a mark into a slot.
+// Puts the mark of the slot i beside it.
 fn put_mark(marks: &mut [u8], i: usize, exchanged: bool)
     requires { i < length marks.old }
     ensures { marks.new ≡ set marks.old i (mark_byte exchanged) }

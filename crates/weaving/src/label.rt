@@ -95,6 +95,7 @@ pub fn label(gates: &mut [LaidGate]) -> Ends
     ensures literals_kept { SameLiterals gates.old gates.new }
     ensures places_kept { SamePlaces gates.old gates.new }
 {
+    // at most 1,024 gates, so the cast loses nothing
     let n = gates.len() as u16;
     let mut keeper = Keeper {
         store: Store::all_free(),

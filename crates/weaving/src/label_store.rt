@@ -31,6 +31,7 @@ impl Store {
         requires { SomeFree self }
         ensures { First (Free self) result.0 }
     {
+        // sixteen bits, so the cast loses nothing
         Label(self.free.trailing_zeros() as u8)
     }
 

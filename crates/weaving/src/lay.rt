@@ -61,7 +61,8 @@ fn hand(at: usize, b: Place, t: Place, f: Place, firsts: &mut [Place; 2047], gat
     gate.false_place = f;
 }
 
-// What gates carry besides stays as it was, here and below: it is said of before and after, as no invariant of a type can say it.
+// What gates carry besides stays as it was, here as above and in `label`: it is said of before and after, which no invariant of a
+// type can say.
 // An operator whose first gate is b reads there where it leads as a whole, and hands both operands their part. The first one's
 // gates come first, so that b is handed on to it.
 fn lay_operator(
@@ -125,6 +126,7 @@ pub fn lay(slots: &[Slot; 2047], marks: &[u8; 2047], gates: &mut [LaidGate])
     ensures laid { LaidOut (kinds_of slots.now) (spans_of slots.now) marks.now (length gates.old) (primitives_of gates.old) (senses_of gates.old) (true_places_of gates.old) (false_places_of gates.old) (primitives_of gates.new) (senses_of gates.new) (true_places_of gates.new) (false_places_of gates.new) }
     ensures labels_kept { SameLabels gates.old gates.new }
 {
+    // at most 1,024 gates, so the cast loses nothing; the first gates of the slots are kept here alone, and go with the call
     let n = gates.len() as u16;
     let root = 2 * gates.len() - 2;
     let mut firsts = [Place(0); 2047];

@@ -1,6 +1,6 @@
--- What the three parts of compile promise of an expression held in slices with a row of marks beside it.
+-- What the three parts of compile promise of an expression held in slots with a row of marks beside it.
 --   root_of n   == the slot of the root of n literals
---   HeldTree    == the slices hold an expression of n literals
+--   HeldTree    == the slots hold an expression of n literals
 --   Marking     == and marks stand beside it
 --   Planned     == the marks are those that turning gives
 --   Weavable    == its arrangement needs so many labels, and the buffer has room
