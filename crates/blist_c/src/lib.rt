@@ -1,4 +1,5 @@
-// The library for C: exports each function of crates/blist under its name, with the same promise, and holds nothing else.
+// The library for C: exports each function of crates/blist under its name, with the same promise, and holds nothing else. They stand
+// twice, since no crate can stand on a static library.
 
 #![tactic(auto)]
 
