@@ -76,7 +76,7 @@ fn agrees(record: Record, out: &mut [u8]) -> bool {
     }
 }
 
-// Compares record after record to the end of the input, and writes the counts. What standard output does not take is lost.
+// Compares record after record, as long as one is whole and a million at most, and writes the counts. What standard output does not take is lost.
 fn main(rt: HostRuntime) {
     let mut text = [0; 16385];
     let mut answer = [0; 6151];

@@ -1,5 +1,6 @@
 // Compiles the examples of document 01 and of request 1, and the worst texts, and writes a line for each: its name, and then
-// the counts of its table or its refusal. The stack holds one text and one table.
+// the counts of its table or its refusal. The stack holds one text and one table. Output, text and table are handed on one by one,
+// as `show` takes them: the text to read and the table to write.
 
 #![tactic(auto)]
 

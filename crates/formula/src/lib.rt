@@ -17,8 +17,8 @@ pub enum Kind {
     Literal { primitive: Primitive, sense: bool },
 }
 
-// A node in two numbers: its kind's, and that of the slots of its subtree. Slots and no boxes, since there is no heap. An enum in place of the kind's number would take the
-// stack of a compilation past what tests/30-library.sh allows it.
+// A node in two numbers: its kind's, and that of the slots of its subtree. Slots and no boxes, since there is no heap. An enum in
+// place of the kind's number would take the stack of a compilation past what tests/30-library.sh allows it.
 #[derive(Clone, Copy, Default)]
 pub struct Slot {
     pub kind: u16,

@@ -47,7 +47,7 @@ impl From<u8> for Sign {
     }
 }
 
-// The tests of a sign. Four and not one: a sign to compare with would tell a digit from another digit too.
+// The tests of a sign, one line each. Not one test, here and in text: a sign to compare with would tell a digit from another too.
 pub fn is_other(sign: Sign) -> bool
     ensures { result ≡ is_other sign }
 {
@@ -72,7 +72,8 @@ pub fn is_close(sign: Sign) -> bool
     matches!(sign, Sign::Close)
 }
 
-// How close an operator binds: one that joins products into a sum, and one that joins factors into a product.
+// How close an operator binds: one that joins products into a sum, and one that joins factors into a product. Numbers, since they
+// are compared.
 pub const OF_SUMS: u8 = 1;
 
 pub const OF_PRODUCTS: u8 = 2;

@@ -22,7 +22,8 @@ fn listed(text: &[u8], table: &mut [u8], out: &mut [u8; 32768]) -> usize
 }
 
 // Reads standard input to its end, or until the buffer is full, and answers how many bytes stand at the front of the buffer.
-// A read that gives nothing is the end, and none comes after it. A loop, since what std reads to the end with fills a `Vec`.
+// A read that gives nothing is the end, and none comes after it. A loop, since what std reads to the end with fills a `Vec`; it
+// answers a number of bytes, as `read` does.
 fn read_in(input: &mut Stdin, text: &mut [u8]) -> io::Result<usize>
     ensures { IfOk result (λ n. IsPrefixLen n text.new) }
 {

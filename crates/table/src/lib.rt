@@ -59,7 +59,8 @@ pub struct End {
     pub on_false: Label,
 }
 
-// Where the record starts that is at fault.
+// Where the record starts that is at fault. Not one type with where the reading of a text stopped: each turns into a refusal of its
+// own.
 #[derive(Clone, Copy)]
 pub struct Fault(pub usize);
 
@@ -220,7 +221,7 @@ pub fn check_gate(table: &[u8], header: Header, k: Place) -> Result<Gate, Fault>
     }
 }
 
-// The last record, likewise.
+// The last record, likewise; apart from `check_gate`, since each reads and tests a record of its own.
 pub fn check_end(table: &[u8], header: Header) -> Result<End, Fault>
     ensures { result ≡ checked_end table.now (shown_header header) }
 {

@@ -26,7 +26,8 @@ pub fn leaf() -> Tag
     }
 }
 
-// The tag of an intersection or a union over children with the tags l and r.
+// The tag of an intersection or a union over children with the tags l and r. That costs leave room for one more is asked and not
+// kept in the type: it is the number of literals that says so, which a tag does not know.
 pub fn price(intersection: bool, l: Tag, r: Tag) -> Tag
     requires { Small (meant r) }
     ensures { meant result ≡ priced (joining intersection) (meant l) (meant r) }

@@ -86,7 +86,7 @@ fn price_placed(mark: u8, intersection: bool, l: Tag, r: Tag) -> Tag
 }
 
 // The tag of the expression held up to the slot i, arranged by the marks beside it. The kind is looked up again, as in `turn`. The
-// two stay apart: one walk, with what is done at an operator as a closure, would hand that down through every level of the stack.
+// two stay apart: the one writes marks and the other reads them, and one walk with a closure for that would be no plainer.
 pub fn price_by(slots: &[Slot; 2047], marks: &[u8; 2047], i: usize) -> Tag
     requires { MarkedSite (kinds_of slots.now) (spans_of slots.now) marks.now i }
     ensures { PricedBy (kinds_of slots.now) (spans_of slots.now) marks.now i (meant result) }

@@ -11,6 +11,7 @@ pub struct Store {
 }
 
 // The word in which the bit of a label is set, and no other.
+// A bound of its own a label cannot have: one of a table from elsewhere may be any byte.
 fn bit_of(label: Label) -> u16
     requires { label.0 < label_room }
     ensures { result ≡ 2 ^ label.0 }
