@@ -6,8 +6,8 @@ ghost use Rattle.examples.specs.Code.Texts.{Put, repeated, row_text, nested_text
 // A buffer and its end: what the builders promise, `Put`, speaks of the room behind the text as well.
 #[derive(Drop)]
 pub struct Text {
-    bytes: [u8; 16385],
-    end: usize,
+    pub bytes: [u8; 16385],
+    pub end: usize,
     ghost within: { end ≤ 16385 },
 }
 
