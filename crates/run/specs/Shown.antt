@@ -35,6 +35,7 @@ pub record EndReadRight (table : List ℕ) (k : ℕ) (r : Result End Refusal) : 
 pub record StartedRight (table : List ℕ) (r : Result coded.Run Refusal) : Type 0 where
   pub shown : shown shown_run r ≡ started table
 
+-- what a feed shows: the run that goes on, or the refusal alone of what it hands back
 pub record FedRight (run : coded.Run) (table : List ℕ) (truth : Bool) (r : Result coded.Run coded_refused.FeedRefused) : Type 0 where
   pub shown : shown shown_run (result_map_both (λ next. next) (λ h. h.refusal) r) ≡ fed (shown_run run) table truth
   pub handed_back : HandedBack run r
