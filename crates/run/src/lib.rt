@@ -34,6 +34,9 @@ pub fn header_read(table: &[u8]) -> Result<Header, Refusal>
 }
 
 // Checks header, length and the record of this gate, and no other.
+// Inlined, and the record is read again once it is checked: passed on through a call and two results it would go through memory, and
+// a feed would take two to four times as long.
+#[inline(always)]
 pub fn gate_read(table: &[u8], gate: usize) -> Result<Gate, Refusal>
     ensures { GateReadRight table.now gate result }
 {
@@ -45,7 +48,9 @@ pub fn gate_read(table: &[u8], gate: usize) -> Result<Gate, Refusal>
         });
     }
     // one of the header's gates, so the cast loses nothing
-    Ok(table::check_gate(table, header, Place(gate as u16))?)
+    let k = Place(gate as u16);
+    table::check_gate(table, header, k)?;
+    Ok(table::gate_at(table, header, k))
 }
 
 // Checks header, length and the last record, and that the gate number reached is that of the end.

@@ -1,18 +1,18 @@
 -- A header that was read is what the table says, so the record checked under it is the table's own.
-use Rattle.std.proofs.Common.{◌≡◌, ◌∙◌, ℕ, ◌<◌, List, true, refl, sym, ap, arith, rules}
+use Rattle.std.proofs.Common.{◌≡◌, ◌∙◌, ℕ, ◌+◌, ◌≤◌, ◌<◌, List, length, true, refl, sym, ap, arith, rules}
 use Rattle.std.proofs.Math.Option.{Option, none, some}
 use Rattle.std.specs.Prelude.{Ok, Err, ltb}
 use borrow.Author.Tests.{lt-ltb}
 use Rattle.terms.specs.Answer.{result}
 use Rattle.terms.specs.declared.Reason.TheVariants.{NotWellFormed}
-use Rattle.table.specs.Layout.{header_of, gate_of}
+use Rattle.table.specs.Layout.{header_of, gate_of, gate_length, record_start}
 use Rattle.table.specs.Shown.{shown_header, shown_gate}
 use Rattle.table.specs.Twins.Faults.{frame_fault, gate_fault}
-use Rattle.table.specs.Code.Checked.{coded_gate, or_fault, checked_gate}
+use Rattle.table.specs.Code.Checked.{coded_gate, gate_under, or_fault, checked_gate}
 use Rattle.table.specs.declared.Header.{Header}
 use Rattle.table.specs.declared.Gate.{Gate}
 use Rattle.table.specs.declared.Fault.{Fault}
-use Rattle.table.proofs.Whole.{nought_one, fault_of, fits_of, gate_found}
+use Rattle.table.proofs.Whole.{nought_one, fault_of, fits_of, framed_length, gate_found}
 use Rattle.run.specs.Shown.{HeaderReadRight, GateReadRight}
 use Rattle.run.proofs.gate_read.Goals as goal
 
@@ -38,15 +38,25 @@ module _ (table : List ℕ) (k : ℕ) (h : Header) (right : HeaderReadRight tabl
   gate_refused : (x : Fault) → Err x ≡ checked_gate table (shown_header h) k → GateReadRight table k (Err (record { reason = NotWellFormed; at = x.0 }))
   gate_refused x e = record { shown = rw (framed, within, fault_of _ _ x (sym found ∙ sym e)) refl }
 
-  gate_said : (g : Gate) → Ok g ≡ checked_gate table (shown_header h) k → GateReadRight table k (Ok g)
-  gate_said g e =
-      let fit = fits_of _ _ g (sym found ∙ sym e) in
-      record { shown = rw (framed, within, fit.no_fault) (ap (λ (x : Gate). result (shown_gate x)) fit.said) }
+  -- what stands there, read once more
+  gate_said : (x g : Gate) → Ok x ≡ checked_gate table (shown_header h) k → g ≡ coded_gate (gate_under (shown_header h) table k)
+      → GateReadRight table k (Ok g)
+  gate_said x g e is =
+      let fit = fits_of _ _ x (sym found ∙ sym e) in
+      let said : g ≡ coded_gate (gate_of table k) = is ∙ ap (λ (y : _). coded_gate (gate_under y table k)) (header_told table h right).1 in
+      record { shown = rw (framed, within, fit.no_fault) (ap (λ (y : Gate). result (shown_gate y)) said) }
+
+  held : record_start (shown_header h) k + gate_length (shown_header h) ≤ length table
+  held = omega (arith, framed_length table framed, ap (λ (y : _). y.gates) (header_told table h right).1)
 
 pub returns-in_err-check_gate : goal.returns-in_err-check_gate
 returns-in_err-check_gate c =
     let right = gate_refused c.args.table.now c.args.gate _ c.in_ok-header.ensures (omega arith) _ c.in_err-check_gate.ensures in
     search (rules, right)
 
+pub gate_at-requires : goal.gate_at-requires
+gate_at-requires c = held c.args.table.now c.args.gate _ c.in_ok-header.ensures (omega arith)
+
 pub returns : goal.returns
-returns c = gate_said c.args.table.now c.args.gate _ c.in_ok-header.ensures (omega arith) _ c.in_ok-check_gate.ensures
+returns c =
+    gate_said c.args.table.now c.args.gate _ c.in_ok-header.ensures (omega arith) _ _ c.in_ok-check_gate.ensures c.gate_at.ensures
