@@ -50,9 +50,10 @@
  *   never end the program. So several threads may call them at the same time,
  *   as long as no thread writes bytes that another call reads.
  * - The stack that blist_compile takes is measured, not proved: 1,024 literals
- *   in one chain, the worst that was found, take 106,639 bytes, and one literal
- *   takes 24,943 (tests/library/stack.c). Give a thread that compiles 128 KB
- *   over what it needs itself. The others take under 1 KB.
+ *   in one chain, the worst that was found, take 102,527 bytes (up to 106,655
+ *   in earlier archives of this number), and one literal takes 24,791
+ *   (tests/library/stack.c). Give a thread that compiles 128 KB over what it
+ *   needs itself. The others take under 1 KB.
  * - They read only the bytes that are lent, and only blist_compile writes:
  *   to `out` and nowhere else.
  * - The caller owns every buffer, before, during and after the call. No

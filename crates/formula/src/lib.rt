@@ -18,7 +18,7 @@ pub enum Kind {
 }
 
 // A node in two numbers: its kind's, and that of the slots of its subtree. Slots and no boxes, since there is no heap. An enum in
-// place of the kind's number would take the stack of a compilation past what tests/30-library.sh allows it.
+// place of the kind's number would take 4,094 bytes more of the stack of a compilation.
 #[derive(Clone, Copy, Default)]
 pub struct Slot {
     pub kind: u16,

@@ -89,6 +89,8 @@ impl Keeper {
 }
 
 // Labels the gates by their places, and answers the labels of True and False.
+// Not inlined: the labels held would lie on the stack all the while that turning is at its deepest.
+#[inline(never)]
 pub fn label(gates: &mut [LaidGate]) -> Ends
     requires { Labelling (true_places_of gates.old) (false_places_of gates.old) (length gates.old) (owns_of gates.old) (on_trues_of gates.old) (on_falses_of gates.old) }
     ensures labelled { Labelled (true_places_of gates.old) (false_places_of gates.old) (length gates.old) (owns_of gates.old) (on_trues_of gates.old) (on_falses_of gates.old) (owns_of gates.new) (on_trues_of gates.new) (on_falses_of gates.new) result }

@@ -121,6 +121,8 @@ fn lay_slot(
 }
 
 // Lays out the gates of the held expression, one a literal: what each literal carries, and its true and false place.
+// Not inlined: the list of first gates would lie on the stack all the while that turning is at its deepest.
+#[inline(never)]
 pub fn lay(slots: &[Slot; 2047], marks: &[u8; 2047], gates: &mut [LaidGate])
     requires { Layable (kinds_of slots.now) (spans_of slots.now) marks.now (length gates.old) }
     ensures laid { LaidOut (kinds_of slots.now) (spans_of slots.now) marks.now (length gates.old) (primitives_of gates.old) (senses_of gates.old) (true_places_of gates.old) (false_places_of gates.old) (primitives_of gates.new) (senses_of gates.new) (true_places_of gates.new) (false_places_of gates.new) }

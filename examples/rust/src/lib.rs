@@ -27,7 +27,7 @@ pub fn version() -> u32 {
 
 /// Compiles a text to a table at the start of the lent buffer. A refused compile has written nothing.
 ///
-/// Its stack is measured, not proved: 1,024 literals in one chain, the worst that was found, take 106,639 bytes. Give a thread that
+/// Its stack is measured, not proved: 1,024 literals in one chain, the worst that was found, take 102,527 bytes. Give a thread that
 /// compiles 128 KB over what it needs itself. (A thread of Rust's has 2 MB unless it is told otherwise.) All else takes under 1 KB.
 pub fn compile<'a>(text: &[u8], out: &'a mut [u8]) -> Result<&'a [u8], Refusal> {
     // SAFETY: both pointers come from slices with these lengths, which do not overlap.
