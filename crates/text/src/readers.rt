@@ -200,7 +200,7 @@ fn join(slots: &mut [Slot], start: usize, right: Cursor, intersection: bool) -> 
 }
 
 // A factor: what stands behind its complements is a number, or a sum in parentheses.
-#[cycle(factor_product_sum)]
+#[cycle(expression_factor_product_sum)]
 fn factor(text: &[u8], slots: &mut [Slot], from: Cursor, sense: bool) -> Result<Cursor, Stop>
     requires { Ready text.now from.at from.free (slots_of slots.old) }
     ensures { FactorRead text.now from.at sense from.free (slots_of slots.old) (slots_of slots.new) result }
@@ -209,7 +209,7 @@ fn factor(text: &[u8], slots: &mut [Slot], from: Cursor, sense: bool) -> Result<
     match look(text, at) {
         Sign::Digit(_) => Ok(literal(text, slots, Cursor { at, ..from }, sense)),
         Sign::Open => {
-            let inner = sum(text, slots, Cursor { at: at + 1, ..from }, sense)?;
+            let inner = expression(text, slots, Cursor { at: at + 1, ..from }, sense)?;
             closed(text, inner)
         }
         _ => Err(Stop(at)),
@@ -219,7 +219,7 @@ fn factor(text: &[u8], slots: &mut [Slot], from: Cursor, sense: bool) -> Result<
 // A product: factors joined by `*`, from the left. It and the sum stay two functions, each a sentence of the grammar: one
 // over the level would take what a part means by the level in each clause.
 // Inlined: every level of parentheses would take 112 bytes more of the stack.
-#[cycle(factor_product_sum)]
+#[cycle(expression_factor_product_sum)]
 #[inline(always)]
 fn product(text: &[u8], slots: &mut [Slot], from: Cursor, sense: bool) -> Result<Cursor, Stop>
     requires { Ready text.now from.at from.free (slots_of slots.old) }
@@ -237,8 +237,8 @@ fn product(text: &[u8], slots: &mut [Slot], from: Cursor, sense: bool) -> Result
     Ok(made)
 }
 
-// A sum: products joined by `+` or `-`, from the left. A whole text is one, and so is what stands in parentheses.
-#[cycle(factor_product_sum)]
+// A sum: products joined by `+` or `-`, from the left.
+#[cycle(expression_factor_product_sum)]
 fn sum(text: &[u8], slots: &mut [Slot], from: Cursor, sense: bool) -> Result<Cursor, Stop>
     requires { Ready text.now from.at from.free (slots_of slots.old) }
     ensures { SumRead text.now from.at sense from.free (slots_of slots.old) (slots_of slots.new) result }
@@ -258,12 +258,23 @@ fn sum(text: &[u8], slots: &mut [Slot], from: Cursor, sense: bool) -> Result<Cur
     }
 }
 
-// How many slots the sum takes that a whole text is; or where reading it stops.
+// What a whole text is, and what stands in parentheses: a sum. One name for both, so that a level above sums has one place.
+// Inlined: a frame of its own would be a level's on the stack.
+#[cycle(expression_factor_product_sum)]
+#[inline(always)]
+fn expression(text: &[u8], slots: &mut [Slot], from: Cursor, sense: bool) -> Result<Cursor, Stop>
+    requires { Ready text.now from.at from.free (slots_of slots.old) }
+    ensures { SumRead text.now from.at sense from.free (slots_of slots.old) (slots_of slots.new) result }
+{
+    sum(text, slots, from, sense)
+}
+
+// How many slots the expression takes that a whole text is; or where reading it stops.
 pub fn whole(text: &[u8], slots: &mut [Slot]) -> Result<usize, Stop>
     requires { Ready text.now 0 0 (slots_of slots.old) }
     ensures { WholeRead text.now (slots_of slots.new) result }
 {
-    let end = sum(text, slots, Cursor { at: 0, free: 0 }, true)?;
+    let end = expression(text, slots, Cursor { at: 0, free: 0 }, true)?;
     if end.at < text.len() {
         return Err(Stop(end.at));
     }

@@ -8,10 +8,10 @@ use Rattle.text.specs.Code.Readers.{behind, meets}
 use Rattle.text.proofs.ReadSigns.{no_digit, no_open, binds_from}
 use Rattle.text.proofs.ReadFactors.{prefixed, prefixed_late, nothing_read, open_stands, ready_inner, inner_read, inner_late}
 use Rattle.text.proofs.ReadChains.{binds_stands, ready_next, room, product_first, product_again, product_late, sum_again, sum_late}
-use Rattle.text.proofs.readers.+factor_product_sum.Goals as goal
+use Rattle.text.proofs.readers.+expression_factor_product_sum.Goals as goal
 
-pub factor-sum-requires : goal.factor-sum-requires
-factor-sum-requires t c =
+pub factor-expression-requires : goal.factor-expression-requires
+factor-expression-requires t c =
     let o = ap is_open (sym c.in-Open.ensures) in
     let h = open_stands c.args.text.now c.operand_at-at.result.at o in
     let p = c.operand_at-at.ensures.passed in

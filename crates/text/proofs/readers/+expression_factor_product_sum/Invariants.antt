@@ -3,16 +3,19 @@
 use Rattle.std.proofs.Common.{◌+◌, ◌-◌, ◌*◌, length}
 use Rattle.text.specs.Code.Readers.{of_factors, slots_of, ProductMeans, SumMeans, Built}
 use Rattle.grammar.specs.Twins.Reader.{of_products}
-use Rattle.text.proofs.readers.+factor_product_sum.Given as goal
+use Rattle.text.proofs.readers.+expression_factor_product_sum.Given as goal
+
+abbrev pub decreases-expression : goal.decreases-expression
+decreases-expression l = (length l.text.now - l.from.at) * 4 + 3
 
 abbrev pub decreases-factor : goal.decreases-factor
-decreases-factor l = (length l.text.now - l.from.at) * 3
+decreases-factor l = (length l.text.now - l.from.at) * 4
 
 abbrev pub decreases-product : goal.decreases-product
-decreases-product l = (length l.text.now - l.from.at) * 3 + 1
+decreases-product l = (length l.text.now - l.from.at) * 4 + 1
 
 abbrev pub decreases-sum : goal.decreases-sum
-decreases-sum l = (length l.text.now - l.from.at) * 3 + 2
+decreases-sum l = (length l.text.now - l.from.at) * 4 + 2
 
 abbrev pub invariant-product-loop-from : goal.invariant-product-loop-from
 invariant-product-loop-from l =
