@@ -3,6 +3,7 @@
 #![tactic(auto)]
 
 ghost use Rattle.std.specs.Prelude.{◌≡◌, [], ◌∷◌, ◌++◌, ◌+◌, ◌≤◌, ◌<◌, length};
+ghost use Rattle.terms.specs.Terms.{most_literals};
 ghost use Rattle.terms.specs.Texts.{bytes};
 ghost use Rattle.table.specs.Shown.{shown_gate};
 ghost use Rattle.listing.specs.Lines.{sign, three_labels, gate_line, pair_line, ends_line, lines, refusal_line};
@@ -78,10 +79,11 @@ impl<'a> Page<'a> {
         self.spaced(on_false.0);
     }
 
-    // The line of gate k.
+    // The line of gate k: a byte less where it is one of the gates that a table may have.
     fn gate(&mut self, k: Place, gate: Gate)
         requires { self.old.at + 26 ≤ 32768 }
-        ensures { WrittenWithin 26 self.old self.new (gate_line k.0 (shown_gate gate)) }
+        ensures line { WrittenWithin 26 self.old self.new (gate_line k.0 (shown_gate gate)) }
+        ensures few { k.0 < most_literals → WrittenWithin 25 self.old self.new (gate_line k.0 (shown_gate gate)) }
     {
         self.number(k.0);
         self.spaced(gate.primitive.0);

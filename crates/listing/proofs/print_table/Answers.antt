@@ -8,7 +8,7 @@ pub loop-k-init : goal.loop-k-init
 loop-k-init c = no_gate c.args.table.now _ c.header_at-header.ensures _
 
 pub loop-k-preserved : goal.loop-k-preserved
-loop-k-preserved c = next_gate c.args.table.now _ c.header_at-header.ensures _ _ c.gate_at.ensures c.loop-k.invariant c.gate.ensures
+loop-k-preserved c = next_gate c.args.table.now _ c.header_at-header.ensures _ _ c.gate_at.ensures c.loop-k.invariant c.gate.ensures.line
 
 pub returns : goal.returns
 unfolding bytes

@@ -2,10 +2,15 @@
 use Rattle.std.proofs.Common.{arith}
 use Rattle.table.specs.Shown.{shown_gate}
 use Rattle.listing.proofs.Decimals.{decimal_written}
-use Rattle.listing.proofs.Parts.{gate_written}
+use Rattle.listing.proofs.Parts.{gate_written, few_gate_written}
 use Rattle.listing.proofs.Page.gate.Goals as goal
 
-pub returns : goal.returns
-returns c =
+pub returns-clause-line : goal.returns-clause-line
+returns-clause-line c =
     gate_written _ (shown_gate c.args.gate) (rw (decimal_written c.args.k.0 (omega arith)) at c.number.ensures)
+    (rw (decimal_written c.args.gate.primitive.0 (omega arith)) at c.spaced.ensures) c.sign.ensures c.labels.ensures c.word.ensures
+
+pub returns-clause-few : goal.returns-clause-few
+returns-clause-few c few =
+    few_gate_written _ (shown_gate c.args.gate) few (rw (decimal_written c.args.k.0 (omega arith)) at c.number.ensures)
     (rw (decimal_written c.args.gate.primitive.0 (omega arith)) at c.spaced.ensures) c.sign.ensures c.labels.ensures c.word.ensures
