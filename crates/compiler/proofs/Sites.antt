@@ -83,7 +83,7 @@ module _ {ks ss bs ps qs ts fs ps' qs' ts' fs' : List ℕ} {n : ℕ} (laid : Lai
         labels_asked r.marking.held.tree r.marking.row r.marking.held.holds r.marking.marked r.marking.held.count
         (omega (arith, r.needs, r.few_labels))
 
-    label_ready : {os us vs : List ℕ} → n ≤ length os → n ≤ length us → n ≤ length vs → Labelling ts' fs' n os us vs
+    pub label_ready : {os us vs : List ℕ} → n ≤ length os → n ≤ length us → n ≤ length vs → Labelling ts' fs' n os us vs
     label_ready room_os room_us room_vs =
         record {
           tree = arranged r.marking.row r.marking.held.tree;
@@ -107,7 +107,7 @@ module _ {ks ss bs ps qs ts fs ps' qs' ts' fs' : List ℕ} {n : ℕ} (laid : Lai
         os us vs os' us' vs' (omega arith) (omega arith) (omega arith) (omega arith) (omega arith) ends
         (labelled.each (arranged ms e) (labels_asked e ms holds marked count (omega arith))) labels needs
 
-    woven_into : {out out' : List ℕ} {labels : ℕ} → labels ≤ most_labels
+    pub woven_into : {out out' : List ℕ} {labels : ℕ} → labels ≤ most_labels
         → out' ≡ table_bytes n labels ps' qs' os' us' vs' ends.on_true.0 ends.on_false.0 ++ drop (table_length n) out
         → WovenInto ks ss bs n labels out out'
     woven_into {out} {labels = labels} low is_written =

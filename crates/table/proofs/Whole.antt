@@ -100,7 +100,7 @@ module _ (table : List ℕ) (h : coded_header.Header) (checked : Ok h ≡ checke
   f : Fit coded_header.Header (frame_fault table) h (header_said table)
   f = fits_of _ _ h (sym checked)
 
-  as_read : shown_header h ≡ header_of table
+  pub as_read : shown_header h ≡ header_of table
   as_read = ap shown_header f.said
 
   as_promised : h.gates ≡ (header_of table).gates

@@ -11,7 +11,7 @@ use Rattle.std.proofs.lemmas.List.{get_or-map}
 use Rattle.terms.specs.Laid.{primitives_of, senses_of, owns_of, on_trues_of, on_falses_of}
 use Rattle.terms.specs.declared.LaidGate.{LaidGate}
 use Rattle.terms.proofs.Stores.{sets_append, sets_front}
-use Rattle.table.specs.Layout.{header_length, gate_length, record_start, table_length, header_for, header_bytes, gate_bytes, end_bytes}
+use Rattle.table.specs.Layout.{header_length, gate_length, end_length, record_start, table_length, header_for, header_bytes, gate_bytes, end_bytes}
 use Rattle.table.specs.Code.Written.{plain, record_at, gate_records, table_bytes}
 
 -- the record of gate k, taken from the gate itself
@@ -60,6 +60,9 @@ module _ (out₀ : List ℕ) (n count : ℕ) (ps ss os ts fs : List ℕ) (t f : 
       rw (e, add-one k)
 
   module _ (k : ℕ) (out : List ℕ) (w : Writing k out) where
+    pub gate_fits : (at : ℕ) → at ≡ start k → table_length n ≤ length out₀ → k < n → at + gate_length (header_for n count) ≤ length out
+    gate_fits at e r h = omega (arith, w.long)
+
     pub writing_more : (out₁ : List ℕ) (at : ℕ) → at ≡ start k → k < n → length out₁ ≡ length out
         → out₁ ≡ sets out at (record_at ps ss os ts fs k) → Writing (k + 1) out₁
     writing_more out₁ at ea h long e =
@@ -71,6 +74,9 @@ module _ (out₀ : List ℕ) (n count : ℕ) (ps ss os ts fs : List ℕ) (t f : 
               (sym (sets_append out (start k) (record_at ps ss os ts fs k) (left_to_write (k + 1)))
               ∙ rw (← left_split k h) w.rest);
         }
+
+    pub end_fits : (at : ℕ) → at ≡ start n → table_length n ≤ length out₀ → at + end_length ≤ length out
+    end_fits at e r = omega (arith, w.long)
 
     records-length : (j m : ℕ) → length (gate_records ps ss os ts fs j m) ≡ gate_length (header_for n count) * m
     unfolding gate_records

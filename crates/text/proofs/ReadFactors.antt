@@ -107,6 +107,18 @@ ready_inner {text} {at} {i} g p o =
       spans_room = g.spans_room;
     }
 
+pub ready_literal : {text : List ℕ} {at i next : ℕ} {sense s : Bool} {a : Slots} → Ready text at next a → Passed text at sense i s → Ready text i next a
+ready_literal g p =
+    record {
+      within = p.within;
+      clear = p.clear;
+      sound = g.sound;
+      few = g.few;
+      so_far = omega (arith, g.so_far, p.runs);
+      kinds_room = g.kinds_room;
+      spans_room = g.spans_room;
+    }
+
 module _ (text : List ℕ) (i : ℕ) (o : is_open (sign_at text i) ≡ true) where
   -- the machine at the `(`
   opened : (w : Waiting) (outer : List Waiting) → reads_on text (wanted w) outer i ≡ reads_on text (wanted nothing) (w ∷ outer) (i + 1)

@@ -9,6 +9,7 @@ use native.Mathlib.Omega.{arith}
 use lib.ListN.{length, drop, drop_of_length-le}
 use Rattle.std.specs.Int.{div_ceil}
 use Rattle.std.proofs.lemmas.Grind.{div_ceil_times}
+use Rattle.terms.specs.Terms.{most_literals}
 use Rattle.terms.specs.declared.Reason.TheVariants.{NotASum}
 use Rattle.terms.specs.declared.Refusal.{Refusal}
 use Rattle.formula.specs.Typed.{positive}
@@ -54,6 +55,9 @@ module _ {text : List ℕ} (a : Allowed text) where
   pub refused_fault : (p : ℕ) → read text ≡ stops p → RefusedAs text (record { reason = NotASum; at = p })
   unfolding reading typed_reading
   refused_fault p s = rw (a.short, a.plain, a.sound, a.shallow, s)
+
+  pub ready : runs_before text (length text) ≤ most_literals → {s : Slots} → most_slots ≤ length s.kinds → most_slots ≤ length s.spans → Ready text 0 0 s
+  ready few ks ss = record { within = omega arith; clear = refl; sound = a.sound; few = few; so_far = omega arith; kinds_room = ks; spans_room = ss }
 
   pub held_right : {ks ss : List ℕ} {n : ℕ} → surplus text ≡ none → Whole text (slots ks ss) n → HeldRight text ks ss (div_ceil n 2)
   unfolding reading typed_reading

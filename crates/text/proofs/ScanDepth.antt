@@ -27,7 +27,7 @@ abbrev pub level : List ℕ → ℤ
 level s = pos (opened s) -ℤ pos (shut s)
 
 -- the count behind one sign more
-abbrev level_with : ℤ → Sign → ℤ
+abbrev pub level_with : ℤ → Sign → ℤ
 level_with z k = cond (is_open k) (z +ℤ pos 1) (cond (is_close k) (z -ℤ pos 1) z)
 
 -- one byte more, at the end
@@ -81,7 +81,7 @@ counts_with a b Close =
 counts_with a b Blank = kept a b
 counts_with a b Other = kept a b
 
-level_next : (text : List ℕ) (i : ℕ) → i < length text → level (take (i + 1) text) ≡ level_with (level (take i text)) (sign_at text i)
+pub level_next : (text : List ℕ) (i : ℕ) → i < length text → level (take (i + 1) text) ≡ level_with (level (take i text)) (sign_at text i)
 level_next text i h =
     let s = take i text in
     let e : take (i + 1) text ≡ s ++ (get_or text i 0 ∷ []) = rw add-one (take-suc text i 0 h) in
@@ -119,7 +119,7 @@ passes_difference n a (suc b) =
     (λ f. rw f (sym (le-ltb (suc b + n) a (omega (arith, ltb-false a (suc b) e, ltb-false n (a - suc b) f)))))))
 
 -- the count passes at i as the row says
-passes_at : (text : List ℕ) (i : ℕ) → too_deep_at text i ≡ (is_open (sign_at text i) && lt_z (pos deepest) (level (take (i + 1) text)))
+pub passes_at : (text : List ℕ) (i : ℕ) → too_deep_at text i ≡ (is_open (sign_at text i) && lt_z (pos deepest) (level (take (i + 1) text)))
 passes_at text i = rw (passes_difference deepest (opened (take (i + 1) text)) (shut (take (i + 1) text)), add-one)
 
 -- the walk: before the first byte, and behind a byte

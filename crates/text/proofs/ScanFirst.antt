@@ -2,14 +2,16 @@
 -- some places, and what it means that it finds nothing.
 -- Assumes nothing.
 use Prim.Native.Nat.{ℕ, zero, suc, ◌+◌, ◌-◌, ◌≤◌, ◌<◌}
-use mathlib.Core.Path.{◌≡◌, refl, ap, ◌∙◌}
+use mathlib.Core.Path.{◌≡◌, refl, sym, ap, ◌∙◌}
 use mathlib.Core.Bool.{Bool, true, false}
 use mathlib.Core.List.{List, [], ◌∷◌}
 use mathlib.Core.Option as maybe
 use native.Mathlib.Decide.{dec_lt}
 use native.Mathlib.Omega.{arith}
 use native.Mathlib.Numerals.{add-one}
+use lib.Dec.{ltb}
 use lib.ListN.{length, get_or}
+use borrow.Author.Tests.{ltb-true, ltb-false}
 use Rattle.std.specs.Prelude.{Option, None, Some, option_map}
 use Rattle.std.specs.List.{find, position, position_from, range_with_len}
 use Rattle.std.proofs.lemmas.Iterator.Adapters.{position_from-zero}
@@ -55,6 +57,21 @@ module _ (test : ℕ → Bool) (i n : ℕ) where
   first_end h =
       let e : n - i ≡ 0 = omega arith in
       rw e
+
+-- several passed at once
+pub first_skipped : (test : ℕ → Bool) (n d i : ℕ) → ((j : ℕ) → i ≤ j → j < i + d → test j ≡ false)
+    → first_from test i (n - i) ≡ first_from test (i + d) (n - (i + d))
+first_skipped test n zero i passed =
+    let e : i + 0 ≡ i = omega arith in
+    rw e
+first_skipped test n (suc d) i passed =
+    let e : i + suc d ≡ (i + 1) + d = omega arith in
+    by_test (ltb i n)
+    (λ h. rw e (first_passed test i n (ltb-true i n h) (passed i (omega arith) (omega arith))
+    ∙ first_skipped test n d (i + 1) (λ j p q. passed j (omega arith) (omega arith))))
+    (λ h.
+    let beyond = ltb-false i n h in
+    first_end test i n beyond ∙ sym (first_end test (i + suc d) n (omega arith)))
 
 -- a search that finds nothing
 found_none : (t : Bool) (i : ℕ) (later : maybe.Option ℕ) → found t i later ≡ maybe.none → (t ≡ false) × (later ≡ maybe.none)

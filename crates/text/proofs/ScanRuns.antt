@@ -1,7 +1,8 @@
 -- Numbers counted: where the one beyond the most literals stands, as a chain over the places of a text finds it.
 -- Assumes nothing.
-use Prim.Native.Nat.{ℕ, zero, suc, ◌+◌, ◌≤◌}
-use mathlib.Core.Path.{◌≡◌, refl}
+use Prim.Native.Nat.{ℕ, zero, suc, ◌+◌, ◌≤◌, ◌<◌}
+use mathlib.Core.Path.{◌≡◌, refl, ◌∙◌}
+use mathlib.Core.Bool.{false}
 use mathlib.Core.Option.{none}
 use mathlib.Core.List.{List}
 use native.Mathlib.Numerals.{add-one}
@@ -14,7 +15,7 @@ use Rattle.terms.specs.Terms.{most_literals}
 use Rattle.terms.specs.First.{first_from}
 use Rattle.grammar.specs.Twins.Places.{run_starts, runs_before, surplus_at, surplus}
 use Rattle.text.specs.Code.Found.{found_as}
-use Rattle.text.proofs.ScanFirst.{none_found}
+use Rattle.text.proofs.ScanFirst.{first_start, first_skipped, first_end, none_found}
 use Rattle.text.proofs.ScanTests.{by_test}
 
 -- with m numbers to pass before the one beyond the most literals, it is the one behind those
@@ -61,3 +62,18 @@ not_crowded text (suc n) h e =
 
 pub few_numbers : (text : List ℕ) → surplus text ≡ none → runs_before text (length text) ≤ most_literals
 few_numbers text e = not_crowded text (length text) (omega arith) e
+
+-- and a text with no more numbers than the most literals has none beyond them
+surplus_nowhere : (text : List ℕ) → runs_before text (length text) ≤ most_literals → (i : ℕ) → i < length text → surplus_at text i ≡ false
+unfolding runs_before
+surplus_nowhere text few i h =
+    by_test (run_starts text i)
+    (λ e. rw e (ne_eqb (runs_before text i) most_literals (λ m. omega (arith, rw e at (runs_up text (suc i) (length text) h)))))
+    (λ e. rw e)
+
+pub surplus_none : (text : List ℕ) → runs_before text (length text) ≤ most_literals → surplus text ≡ none
+surplus_none text few =
+    let n = length text in
+    first_start (surplus_at text) n
+    ∙ first_skipped (surplus_at text) n n 0 (λ j p q. surplus_nowhere text few j (omega arith))
+    ∙ first_end (surplus_at text) (0 + n) n (omega arith)

@@ -8,7 +8,7 @@ use native.Mathlib.Decide.{dec_lt}
 use native.Mathlib.Omega.{arith}
 use native.Mathlib.Nat.{max-le}
 use lib.Dec.{ltb, eqb}
-use lib.ListN.{length}
+use lib.ListN.{length, get_or}
 use borrow.Author.Tests.{lt-ltb, le-ltb}
 use Rattle.std.proofs.Common.{Ordering, Option, Some, Less, Equal, Greater}
 use Rattle.std.specs.Ordering.{nat_cmp, is_lt, is_some_and, partial_lt, partial_ordering_then}
@@ -40,6 +40,14 @@ alike_marked false = refl
 pub alike_unmarked : (m : Bool) → beq false m ≡ not m
 alike_unmarked true = refl
 alike_unmarked false = refl
+
+-- an array of three is its three entries
+pub three : (xs : List ℕ) → length xs ≡ 3 → xs ≡ get_or xs 0 0 ∷ get_or xs 1 0 ∷ get_or xs 2 0 ∷ []
+three [] e = absurd (omega arith)
+three (a ∷ []) e = absurd (omega arith)
+three (a ∷ b ∷ []) e = absurd (omega arith)
+three (a ∷ b ∷ c ∷ []) e = refl
+three (a ∷ b ∷ c ∷ d ∷ xs) e = absurd (omega arith)
 
 -- the first place where two rows differ decides, as the order of arrays has it
 decided : (less same : Bool) (rest : Option Ordering) (later : Bool) → is_some_and is_lt rest ≡ later
