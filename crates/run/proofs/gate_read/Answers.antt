@@ -1,11 +1,11 @@
 -- A header that was read is what the table says, so the record checked under it is the table's own.
-use Rattle.std.proofs.Common.{◌≡◌, ◌∙◌, ℕ, ◌+◌, ◌≤◌, ◌<◌, List, length, true, refl, sym, ap, arith, rules}
+use Rattle.std.proofs.Common.{◌≡◌, ◌∙◌, ℕ, ◌<◌, List, true, refl, sym, ap, arith, rules}
 use Rattle.std.proofs.Math.Option.{Option, none, some}
 use Rattle.std.specs.Prelude.{Ok, Err, ltb}
 use borrow.Author.Tests.{lt-ltb}
 use Rattle.terms.specs.Answer.{result}
 use Rattle.terms.specs.declared.Reason.TheVariants.{NotWellFormed}
-use Rattle.table.specs.Layout.{header_of, gate_of, gate_length, record_start}
+use Rattle.table.specs.Layout.{header_of, gate_of}
 use Rattle.table.specs.Shown.{shown_header, shown_gate}
 use Rattle.table.specs.Twins.Faults.{frame_fault, gate_fault}
 use Rattle.table.specs.Code.Checked.{coded_gate, gate_under, or_fault, checked_gate}
@@ -46,16 +46,15 @@ module _ (table : List ℕ) (k : ℕ) (h : Header) (right : HeaderReadRight tabl
       let said : g ≡ coded_gate (gate_of table k) = is ∙ ap (λ (y : _). coded_gate (gate_under y table k)) (header_told table h right).1 in
       record { shown = rw (framed, within, fit.no_fault) (ap (λ (y : Gate). result (shown_gate y)) said) }
 
-  held : record_start (shown_header h) k + gate_length (shown_header h) ≤ length table
-  held = omega (arith, framed_length table framed, ap (λ (y : _). y.gates) (header_told table h right).1)
-
 pub returns-in_err-check_gate : goal.returns-in_err-check_gate
 returns-in_err-check_gate c =
     let right = gate_refused c.args.table.now c.args.gate _ c.in_ok-header.ensures (omega arith) _ c.in_err-check_gate.ensures in
     search (rules, right)
 
 pub gate_at-requires : goal.gate_at-requires
-gate_at-requires c = held c.args.table.now c.args.gate _ c.in_ok-header.ensures (omega arith)
+gate_at-requires c =
+    let told = header_told c.args.table.now _ c.in_ok-header.ensures in
+    omega (arith, framed_length c.args.table.now told.0, ap (λ (y : _). y.gates) told.1)
 
 pub returns : goal.returns
 returns c =
