@@ -1,12 +1,11 @@
 -- The parts of a line, written one behind the other, are the line; the lines, written one behind the other, are the listing, and it
 -- fits the buffer because a gate's line has no more than 26 bytes (25 below the most gates). Assumes nothing.
-use Prim.Native.Nat.{ℕ, ◌+◌, ◌*◌, ◌^◌, ◌≤◌, ◌<◌}
+use Prim.Native.Nat.{ℕ, ◌+◌, ◌*◌, ◌≤◌}
 use mathlib.Core.Path.{◌≡◌, refl, ap, subst, ◌∙◌}
 use mathlib.Core.List.{List, ◌++◌}
 use native.Mathlib.Numerals.{add-one}
 use native.Mathlib.Omega.{arith}
 use lib.ListN.{length}
-use Rattle.terms.specs.Terms.{most_literals}
 use Rattle.table.specs.Layout.{GateFields, header_of, gate_of}
 use Rattle.table.specs.Shown.{shown_header, shown_gate}
 use Rattle.table.specs.Code.Checked.{header_said, coded_gate, coded_end, gate_under, end_under}
@@ -16,8 +15,7 @@ use Rattle.table.specs.declared.End.{End}
 use Rattle.listing.specs.declared.Page.{Page}
 use Rattle.listing.specs.Lines.{decimal, newline, spaced, counts_line, sign, three_labels, gate_line, gate_lines, pair_line, ends_line, lines}
 use Rattle.listing.specs.Code.Written.{Written, WrittenWithin, Printed, Listable}
-use Rattle.listing.proofs.Decimals.{decimal_short}
-use Rattle.listing.proofs.Writing.{nothing, then, then_within, tight, whole, printed}
+use Rattle.listing.proofs.Writing.{nothing, then, then_within, whole, printed}
 
 -- a word and a number, twice, and the end of the line
 pub two_numbers : {a b c d e f : Page} (v w : List ℕ) (m n : ℕ)
@@ -27,23 +25,12 @@ two_numbers v w m n p q s t u =
     let line = then_within (whole p) (then_within q (then_within (whole s) (then_within t (whole u)))) in
     record { written = line.written; near = omega (arith, line.near) }
 
-pub gate_written : {a b c d e f : Page} (g : ℕ) (fields : GateFields)
-    → WrittenWithin 5 a b (decimal g) → WrittenWithin 6 b c (spaced fields.primitive) → WrittenWithin 2 c d (sign fields.kind)
-    → WrittenWithin 12 d e (three_labels fields.own fields.on_true fields.on_false) → Written e f newline
-    → WrittenWithin 26 a f (gate_line g fields)
-gate_written g fields v w x y z = then_within v (then_within w (then_within x (then_within y (whole z))))
-
--- the line of one of the gates that there may be
-pub few_gate_written : {m : ℕ} {a b c d e f : Page} (g : ℕ) (fields : GateFields) → g < most_literals
+-- a gate's line, where its number has no more than m bytes
+pub gate_written : {m : ℕ} {a b c d e f : Page} (g : ℕ) (fields : GateFields)
     → WrittenWithin m a b (decimal g) → WrittenWithin 6 b c (spaced fields.primitive) → WrittenWithin 2 c d (sign fields.kind)
     → WrittenWithin 12 d e (three_labels fields.own fields.on_true fields.on_false) → Written e f newline
-    → WrittenWithin 25 a f (gate_line g fields)
-few_gate_written g fields few v w x y z =
-    let number = tight v.written (decimal_short 3 g few') in
-    then_within number (then_within w (then_within x (then_within y (whole z))))
-  where
-    few' : g < 10 ^ 4
-    few' = omega arith
+    → WrittenWithin (m + 21) a f (gate_line g fields)
+gate_written g fields v w x y z = then_within v (then_within w (then_within x (then_within y (whole z))))
 
 -- h is what the header of the table says
 module _ (table : List ℕ) (h : coded_header.Header) (eh : h ≡ header_said table) where

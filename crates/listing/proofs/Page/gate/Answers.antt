@@ -1,8 +1,9 @@
 -- What the gate says is written part by part, in the order of the line.
 use Rattle.std.proofs.Common.{arith}
 use Rattle.table.specs.Shown.{shown_gate}
-use Rattle.listing.proofs.Decimals.{decimal_written}
-use Rattle.listing.proofs.Parts.{gate_written, few_gate_written}
+use Rattle.listing.proofs.Decimals.{decimal_short, decimal_written}
+use Rattle.listing.proofs.Parts.{gate_written}
+use Rattle.listing.proofs.Writing.{tight}
 use Rattle.listing.proofs.Page.gate.Goals as goal
 
 pub returns-clause-line : goal.returns-clause-line
@@ -12,5 +13,6 @@ returns-clause-line c =
 
 pub returns-clause-few : goal.returns-clause-few
 returns-clause-few c few =
-    few_gate_written _ (shown_gate c.args.gate) few (rw (decimal_written c.args.k.0 (omega arith)) at c.number.ensures)
+    let number = rw (decimal_written c.args.k.0 (omega arith)) at c.number.ensures in
+    gate_written _ (shown_gate c.args.gate) (tight number.written (decimal_short 3 c.args.k.0 (omega (arith, few))))
     (rw (decimal_written c.args.gate.primitive.0 (omega arith)) at c.spaced.ensures) c.sign.ensures c.labels.ensures c.word.ensures
