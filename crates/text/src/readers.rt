@@ -199,7 +199,7 @@ fn join(slots: &mut [Slot], start: usize, right: Cursor, intersection: bool) -> 
     }
 }
 
-// A factor: what stands behind its complements is a number, or a sum in parentheses.
+// A factor: what stands behind its complements is a number, or an expression in parentheses.
 #[cycle(expression_factor_product_sum)]
 fn factor(text: &[u8], slots: &mut [Slot], from: Cursor, sense: bool) -> Result<Cursor, Stop>
     requires { Ready text.now from.at from.free (slots_of slots.old) }
@@ -259,7 +259,7 @@ fn sum(text: &[u8], slots: &mut [Slot], from: Cursor, sense: bool) -> Result<Cur
 }
 
 // What a whole text is, and what stands in parentheses: a sum. One name for both, so that a level above sums has one place.
-// Inlined: a frame of its own would be a level's on the stack.
+// Inlined, so that no parenthesis takes a frame more of the stack for it.
 #[cycle(expression_factor_product_sum)]
 #[inline(always)]
 fn expression(text: &[u8], slots: &mut [Slot], from: Cursor, sense: bool) -> Result<Cursor, Stop>
