@@ -60,7 +60,7 @@ CC86 -std=gnu11 -Wall -Wextra -Werror -O2 tests/library/stack.c -o "$work/stack"
 RUN86 "$work/stack" | tee "$work/taken"
 told=$(sed -n 's/.*worst that was found, take \([0-9,]*\) bytes.*/\1/p' include/blist.h | tr -d ,)
 most=$(awk '$1 > most { most = $1 } END { print most }' "$work/taken")
-if ((most > told + 64)); then echo "library: blist.h tells $told bytes of stack, and it took $most" && exit 1; fi # the caller's own may differ by a few
+if ((most > told + 64)); then echo "library: blist.h tells $told bytes of stack, and it took $most" && exit 1; fi # what the call itself takes is the C compiler's
 for standard in c99 c11 c17; do CC86 -xc -std=$standard -Wall -Wextra -Wpedantic -Werror -fsyntax-only include/blist.h; done
 if command -v g++ > /dev/null; then g++ -xc++ -std=c++11 -Wall -Wextra -Wpedantic -Werror -fsyntax-only include/blist.h; fi
 
